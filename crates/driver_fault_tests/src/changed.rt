@@ -1,6 +1,6 @@
 //! Every byte of a small stream and of a small job, changed to eight others.
 use crate::inputs::Input;
-use crate::runs::{BY_BYTES, Calls, Command, leaves};
+use crate::runs::{BY_BYTES, Calls, DriverCommand, leaves};
 use std::alloc::Global;
 use std::process::Abort;
 use std::test::Fail;
@@ -13,7 +13,7 @@ const CHANGES: [u8; 8] = [0x01, 0x02, 0x03, 0x08, 0x11, 0x40, 0x80, 0xFF];
 fn try_byte<R: Abort + Threads + Sync>(
     rt: &R,
     alloc: Global,
-    command: Command,
+    command: DriverCommand,
     whole: &[u8],
     place: usize,
 ) -> Result<(), Fail> {
@@ -36,7 +36,7 @@ fn try_byte<R: Abort + Threads + Sync>(
 fn try_bytes<R: Abort + Threads + Sync>(
     rt: &R,
     alloc: Global,
-    command: Command,
+    command: DriverCommand,
     input: Input,
 ) -> Result<(), Fail> {
     let whole = input.bytes(alloc)?;
@@ -48,12 +48,12 @@ fn try_bytes<R: Abort + Threads + Sync>(
 
 #[test]
 fn a_changed_byte_has_its_answer(rt: HostRuntime) -> Result<(), Fail> {
-    const CASES: [(Command, Input); 5] = [
-        (Command::PrintBlack, Input::GreyPage),
-        (Command::Dots, Input::TinyJob),
-        (Command::Dots, Input::CodedJob),
-        (Command::List, Input::TinyJob),
-        (Command::List, Input::CodedJob),
+    const CASES: [(DriverCommand, Input); 5] = [
+        (DriverCommand::PrintBlack, Input::GreyPage),
+        (DriverCommand::Dots, Input::TinyJob),
+        (DriverCommand::Dots, Input::CodedJob),
+        (DriverCommand::List, Input::TinyJob),
+        (DriverCommand::List, Input::CodedJob),
     ];
     for &(command, input) in &CASES {
         try_bytes(&rt, rt.alloc(), command, input)?;

@@ -1,6 +1,6 @@
 //! Jobs that break two rules of the machine at once: the first of a command's refusals counts.
 use crate::answers::Answer;
-use crate::runs::{BY_BYTES, Command, leaves, words_leave};
+use crate::runs::{BY_BYTES, DriverCommand, leaves, words_leave};
 use driver_fixtures::joined;
 use std::alloc::Global;
 use std::process::Abort;
@@ -115,7 +115,7 @@ fn refuses<R: Abort + Threads + Sync>(
     let line = format!(in alloc; "job: offset {at}: {cause}\n")?;
     let wanted = Answer::of(alloc, 8, b"", &line)?;
     let job = joined(alloc, parts)?;
-    leaves(rt, alloc, Command::Dots, &job, BY_BYTES, &wanted)
+    leaves(rt, alloc, DriverCommand::Dots, &job, BY_BYTES, &wanted)
 }
 
 #[test]

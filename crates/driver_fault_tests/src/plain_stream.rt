@@ -117,14 +117,14 @@ fn header_fault(header: &[u8]) -> Option<&'static str> {
 
 // Why reading stops.
 #[derive(Clone, Copy)]
-enum Stop {
+enum PlainStreamStop {
     Fault(StreamFault),
     Memory,
 }
 
-impl From<AllocError> for Stop {
-    fn from(_error: AllocError) -> Stop {
-        Stop::Memory
+impl From<AllocError> for PlainStreamStop {
+    fn from(_error: AllocError) -> PlainStreamStop {
+        PlainStreamStop::Memory
     }
 }
 
@@ -138,8 +138,8 @@ struct StreamLeft<'a> {
 }
 
 impl<'a> StreamLeft<'a> {
-    fn refuse<T>(&self, cause: &'static str) -> Result<T, Stop> {
-        Err(Stop::Fault(StreamFault {
+    fn refuse<T>(&self, cause: &'static str) -> Result<T, PlainStreamStop> {
+        Err(PlainStreamStop::Fault(StreamFault {
             page: self.page,
             line: self.line,
             cause,
@@ -147,7 +147,7 @@ impl<'a> StreamLeft<'a> {
     }
 
     // The next bytes, so many.
-    fn take(&mut self, count: usize) -> Result<&'a [u8], Stop> {
+    fn take(&mut self, count: usize) -> Result<&'a [u8], PlainStreamStop> {
         if self.rest.len() < count {
             return self.refuse("Truncated");
         }
@@ -156,12 +156,17 @@ impl<'a> StreamLeft<'a> {
         Ok(taken)
     }
 
-    fn byte(&mut self) -> Result<u8, Stop> {
+    fn byte(&mut self) -> Result<u8, PlainStreamStop> {
         Ok(self.take(1)?.first().copied().unwrap_or(0))
     }
 
     // Appends the pixels of a packet, of which the line takes at most `left`, and gives their number.
-    fn packet(&mut self, form: Form, left: usize, pixels: &mut Vec<Pixel>) -> Result<usize, Stop> {
+    fn packet(
+        &mut self,
+        form: Form,
+        left: usize,
+        pixels: &mut Vec<Pixel>,
+    ) -> Result<usize, PlainStreamStop> {
         let control = usize::from(self.byte()?);
         let count = match control {
             0..=127 => control + 1,
@@ -177,14 +182,14 @@ impl<'a> StreamLeft<'a> {
                 pixel = form.pixel(self.take(form.unit())?);
             }
             if pixels.push(pixel).is_err() {
-                return Err(Stop::Memory);
+                return Err(PlainStreamStop::Memory);
             }
         }
         Ok(count)
     }
 
     // The pixels of a line.
-    fn coded_line(&mut self, form: Form, width: usize) -> Result<Vec<Pixel>, Stop> {
+    fn coded_line(&mut self, form: Form, width: usize) -> Result<Vec<Pixel>, PlainStreamStop> {
         let mut pixels = Vec::new(self.alloc);
         let mut left = width;
         for _ in 0..width {
@@ -196,7 +201,12 @@ impl<'a> StreamLeft<'a> {
     }
 
     // Appends the lines of a group, of which the page takes at most `left`, and gives their number.
-    fn group(&mut self, form: Form, left: usize, page: &mut PlainPage) -> Result<usize, Stop> {
+    fn group(
+        &mut self,
+        form: Form,
+        left: usize,
+        page: &mut PlainPage,
+    ) -> Result<usize, PlainStreamStop> {
         let count = usize::from(self.byte()?) + 1;
         if count > left {
             return self.refuse("GroupPastPage");
@@ -209,7 +219,7 @@ impl<'a> StreamLeft<'a> {
     }
 
     // The next page.
-    fn next_page(&mut self) -> Result<PlainPage, Stop> {
+    fn next_page(&mut self) -> Result<PlainPage, PlainStreamStop> {
         self.line = 0;
         let header = self.take(1796)?;
         let form = match (header_fault(header), form_of(header)) {
@@ -259,11 +269,11 @@ pub fn read_stream(alloc: Global, bytes: &[u8]) -> Result<PlainStream, AllocErro
         unread.page = unread.page.wrapping_add(1);
         match unread.next_page() {
             Ok(page) => pages.push(page)?,
-            Err(Stop::Fault(fault)) => {
+            Err(PlainStreamStop::Fault(fault)) => {
                 let fault = Some(fault);
                 return Ok(PlainStream { pages, fault });
             }
-            Err(Stop::Memory) => return Err(AllocError),
+            Err(PlainStreamStop::Memory) => return Err(AllocError),
         }
     }
     Ok(PlainStream { pages, fault: None })

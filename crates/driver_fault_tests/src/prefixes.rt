@@ -1,6 +1,6 @@
 //! Every prefix of a stream and of a job.
 use crate::inputs::Input;
-use crate::runs::{BY_BYTES, Calls, Command, leaves};
+use crate::runs::{BY_BYTES, Calls, DriverCommand, leaves};
 use driver_fixtures::prefix;
 use std::alloc::Global;
 use std::process::Abort;
@@ -8,7 +8,7 @@ use std::test::Fail;
 use std::thread::Threads;
 
 // A command, its input, and the most bytes of a read.
-type Case = (Command, Input, u32);
+type Case = (DriverCommand, Input, u32);
 
 // Asserts the answer to each prefix of an input.
 fn try_prefixes<R: Abort + Threads + Sync>(
@@ -37,8 +37,8 @@ fn try_all<R: Abort + Threads + Sync>(rt: &R, alloc: Global, cases: &[Case]) -> 
 #[test]
 fn every_prefix_of_two_colour_pages_has_its_answer(rt: HostRuntime) -> Result<(), Fail> {
     const CASES: [Case; 2] = [
-        (Command::PrintColours, Input::ColourPages, 64),
-        (Command::PrintBlack, Input::ColourPages, 1000),
+        (DriverCommand::PrintColours, Input::ColourPages, 64),
+        (DriverCommand::PrintBlack, Input::ColourPages, 1000),
     ];
     try_all(&rt, rt.alloc(), &CASES)
 }
@@ -46,12 +46,12 @@ fn every_prefix_of_two_colour_pages_has_its_answer(rt: HostRuntime) -> Result<()
 #[test]
 fn every_prefix_of_a_job_has_its_answer(rt: HostRuntime) -> Result<(), Fail> {
     const CASES: [Case; 6] = [
-        (Command::Dots, Input::TinyJob, 1),
-        (Command::Dots, Input::CodedJob, 1),
-        (Command::Dots, Input::CodedJob, 50),
-        (Command::List, Input::TinyJob, 1),
-        (Command::List, Input::CodedJob, 1),
-        (Command::List, Input::CodedJob, 50),
+        (DriverCommand::Dots, Input::TinyJob, 1),
+        (DriverCommand::Dots, Input::CodedJob, 1),
+        (DriverCommand::Dots, Input::CodedJob, 50),
+        (DriverCommand::List, Input::TinyJob, 1),
+        (DriverCommand::List, Input::CodedJob, 1),
+        (DriverCommand::List, Input::CodedJob, 50),
     ];
     try_all(&rt, rt.alloc(), &CASES)
 }

@@ -1,6 +1,6 @@
 //! Every failing read, and failing reads and writes together.
 use crate::inputs::Input;
-use crate::runs::{BY_BYTES, Calls, Command, call_behind, leaves};
+use crate::runs::{BY_BYTES, Calls, DriverCommand, call_behind, leaves};
 use driver_fixtures::prefix;
 use std::alloc::Global;
 use std::process::Abort;
@@ -9,7 +9,7 @@ use std::thread::Threads;
 
 // A run whose reads fail: a command, its input, a byte of the input that is changed, by its place, and the most bytes of
 // a read.
-type Case = (Command, Input, Option<(usize, u8)>, u32);
+type Case = (DriverCommand, Input, Option<(usize, u8)>, u32);
 
 // The bytes of a case.
 fn bytes_of(alloc: Global, (_, input, change, _): Case) -> Result<Vec<u8>, Fail> {
@@ -63,17 +63,17 @@ fn try_all<R: Abort + Threads + Sync>(rt: &R, alloc: Global, cases: &[Case]) -> 
 #[test]
 fn every_failing_read_is_status_four(rt: HostRuntime) -> Result<(), Fail> {
     const CASES: [Case; 5] = [
-        (Command::PrintColours, Input::ColourPages, None, 1),
+        (DriverCommand::PrintColours, Input::ColourPages, None, 1),
         // the second page ends after its first group, and a third begins
         (
-            Command::PrintColours,
+            DriverCommand::PrintColours,
             Input::ColourPages,
             Some((3614, 2)),
             11,
         ),
-        (Command::PrintColours, Input::ColourPages, None, 7),
-        (Command::PrintColours, Input::ColourPages, None, 1000),
-        (Command::PrintBlack, Input::ColourPages, None, 65_536),
+        (DriverCommand::PrintColours, Input::ColourPages, None, 7),
+        (DriverCommand::PrintColours, Input::ColourPages, None, 1000),
+        (DriverCommand::PrintBlack, Input::ColourPages, None, 65_536),
     ];
     try_all(&rt, rt.alloc(), &CASES)
 }
@@ -99,7 +99,12 @@ fn a_fault_that_was_read_comes_before_a_failing_read(rt: HostRuntime) -> Result<
     ];
     for &(place, byte, piece) in &FAULTS {
         let change = Some((place, byte));
-        let case = (Command::PrintColours, Input::ColourPages, change, piece);
+        let case = (
+            DriverCommand::PrintColours,
+            Input::ColourPages,
+            change,
+            piece,
+        );
         try_reads(&rt, rt.alloc(), case)?;
     }
     Ok(())
@@ -108,23 +113,23 @@ fn a_fault_that_was_read_comes_before_a_failing_read(rt: HostRuntime) -> Result<
 #[test]
 fn every_failing_read_of_a_job_is_status_four(rt: HostRuntime) -> Result<(), Fail> {
     const CASES: [Case; 9] = [
-        (Command::Dots, Input::CodedJob, None, 1),
-        (Command::Dots, Input::CodedJob, None, 7),
-        (Command::Dots, Input::TinyJob, None, 1),
-        (Command::List, Input::CodedJob, None, 1),
-        (Command::List, Input::CodedJob, None, 7),
-        (Command::List, Input::TinyJob, None, 1),
+        (DriverCommand::Dots, Input::CodedJob, None, 1),
+        (DriverCommand::Dots, Input::CodedJob, None, 7),
+        (DriverCommand::Dots, Input::TinyJob, None, 1),
+        (DriverCommand::List, Input::CodedJob, None, 1),
+        (DriverCommand::List, Input::CodedJob, None, 7),
+        (DriverCommand::List, Input::TinyJob, None, 1),
         // a byte that begins no command, on the second sheet
-        (Command::Dots, Input::CodedJob, Some((105, 0x0E)), 3),
-        (Command::List, Input::CodedJob, Some((105, 0x0E)), 3),
+        (DriverCommand::Dots, Input::CodedJob, Some((105, 0x0E)), 3),
+        (DriverCommand::List, Input::CodedJob, Some((105, 0x0E)), 3),
         // a raster of two rows
-        (Command::Dots, Input::CodedJob, Some((42, 2)), 2),
+        (DriverCommand::Dots, Input::CodedJob, Some((42, 2)), 2),
     ];
     try_all(&rt, rt.alloc(), &CASES)
 }
 
 // A command, its input, and from one to the next of the reads and the writes that fail.
-type Both = (Command, Input, usize, usize);
+type Both = (DriverCommand, Input, usize, usize);
 
 // Asserts what is left where a read of one byte fails, by a step of writes that fail too.
 fn try_writes<R: Abort + Threads + Sync>(
@@ -161,10 +166,10 @@ fn try_both<R: Abort + Threads + Sync>(rt: &R, alloc: Global, case: Both) -> Res
 #[test]
 fn failing_sink_and_source_keep_what_was_done(rt: HostRuntime) -> Result<(), Fail> {
     const CASES: [Both; 4] = [
-        (Command::PrintColours, Input::ColourPages, 79, 3),
-        (Command::Dots, Input::TinyJob, 1, 5),
-        (Command::Dots, Input::CodedJob, 1, 5),
-        (Command::List, Input::CodedJob, 1, 5),
+        (DriverCommand::PrintColours, Input::ColourPages, 79, 3),
+        (DriverCommand::Dots, Input::TinyJob, 1, 5),
+        (DriverCommand::Dots, Input::CodedJob, 1, 5),
+        (DriverCommand::List, Input::CodedJob, 1, 5),
     ];
     for &case in &CASES {
         try_both(&rt, rt.alloc(), case)?;

@@ -9,7 +9,7 @@ use weave_base::{InkSet, MemSink, MemSource};
 
 /// A command over an input.
 #[derive(Clone, Copy, Debug)]
-pub enum Command {
+pub enum DriverCommand {
     /// Printing by a head of one nozzle with black ink.
     PrintBlack,
     /// Printing by a head of one nozzle with four inks.
@@ -22,23 +22,23 @@ pub enum Command {
 // The profile of a head of one nozzle with four inks.
 const FOUR: &[u8] = b"escp2-profile 1\nhdpi=360\nvdpi=360\nnozzles=1\npitch=1\ninks=cmyk\n";
 
-impl Command {
+impl DriverCommand {
     fn words(self) -> &'static [&'static str] {
         match self {
-            Command::PrintBlack => &["print", "profile=tiny1"],
-            Command::PrintColours => &["print", "profile=four.txt"],
-            Command::Dots => &["dots", "profile=tiny"],
-            Command::List => &["list"],
+            DriverCommand::PrintBlack => &["print", "profile=tiny1"],
+            DriverCommand::PrintColours => &["print", "profile=four.txt"],
+            DriverCommand::Dots => &["dots", "profile=tiny"],
+            DriverCommand::List => &["list"],
         }
     }
 
     /// What it is to leave of these bytes.
     pub fn answer(self, alloc: Global, bytes: &[u8]) -> Result<Answer, AllocError> {
         match self {
-            Command::PrintBlack => printed(alloc, InkSet::K, bytes),
-            Command::PrintColours => printed(alloc, InkSet::Cmyk, bytes),
-            Command::Dots => shown(alloc, bytes),
-            Command::List => told(alloc, bytes),
+            DriverCommand::PrintBlack => printed(alloc, InkSet::K, bytes),
+            DriverCommand::PrintColours => printed(alloc, InkSet::Cmyk, bytes),
+            DriverCommand::Dots => shown(alloc, bytes),
+            DriverCommand::List => told(alloc, bytes),
         }
     }
 }
@@ -104,7 +104,7 @@ pub fn words_leave<R: Abort + Threads + Sync>(
 pub fn leaves<R: Abort + Threads + Sync>(
     rt: &R,
     alloc: Global,
-    command: Command,
+    command: DriverCommand,
     bytes: &[u8],
     calls: Calls,
     wanted: &Answer,

@@ -1,7 +1,7 @@
 //! Every failing write.
 use crate::answers::Answer;
 use crate::inputs::Input;
-use crate::runs::{BY_BYTES, Calls, Command, call_behind, leaves, words_leave};
+use crate::runs::{BY_BYTES, Calls, DriverCommand, call_behind, leaves, words_leave};
 use known_jobs::TINY_TEXT;
 use std::alloc::Global;
 use std::process::Abort;
@@ -12,7 +12,7 @@ use std::thread::Threads;
 fn try_writes<R: Abort + Threads + Sync>(
     rt: &R,
     alloc: Global,
-    command: Command,
+    command: DriverCommand,
     input: Input,
 ) -> Result<(), Fail> {
     let bytes = input.bytes(alloc)?;
@@ -31,14 +31,14 @@ fn try_writes<R: Abort + Threads + Sync>(
 
 #[test]
 fn every_failing_write_leaves_its_prefix(rt: HostRuntime) -> Result<(), Fail> {
-    const CASES: [(Command, Input); 7] = [
-        (Command::PrintBlack, Input::GreyPage),
-        (Command::PrintBlack, Input::ColourPages),
-        (Command::PrintColours, Input::ColourPages),
-        (Command::Dots, Input::TinyJob),
-        (Command::Dots, Input::CodedJob),
-        (Command::List, Input::TinyJob),
-        (Command::List, Input::CodedJob),
+    const CASES: [(DriverCommand, Input); 7] = [
+        (DriverCommand::PrintBlack, Input::GreyPage),
+        (DriverCommand::PrintBlack, Input::ColourPages),
+        (DriverCommand::PrintColours, Input::ColourPages),
+        (DriverCommand::Dots, Input::TinyJob),
+        (DriverCommand::Dots, Input::CodedJob),
+        (DriverCommand::List, Input::TinyJob),
+        (DriverCommand::List, Input::CodedJob),
     ];
     for &(command, input) in &CASES {
         try_writes(&rt, rt.alloc(), command, input)?;

@@ -1,6 +1,6 @@
 //! What the commands for print jobs write, by the slow programs.
 use crate::machine::Machine;
-use crate::reader::{JobBytesLeft, Name, Said, Stop};
+use crate::reader::{JobBytesLeft, Name, PlainJobStop, Said};
 use std::alloc::{AllocError, Global};
 
 /// What a command makes of a job, by a slow program.
@@ -52,9 +52,9 @@ fn read(alloc: Global, job: &[u8]) -> Result<Commands, AllocError> {
         }
         match unread.command() {
             Ok(command) => said.push(command)?,
-            Err(Stop::Cut) => stop = Some((unread.last, "Cut")),
-            Err(Stop::Fault { at, cause }) => stop = Some((at, cause)),
-            Err(Stop::Memory) => return Err(AllocError),
+            Err(PlainJobStop::Cut) => stop = Some((unread.last, "Cut")),
+            Err(PlainJobStop::Fault { at, cause }) => stop = Some((at, cause)),
+            Err(PlainJobStop::Memory) => return Err(AllocError),
         }
     }
     Ok(Commands { said, stop })

@@ -3,7 +3,7 @@ use std::alloc::{AllocError, Global};
 
 /// Why bytes are not a command.
 #[derive(Clone, Copy)]
-pub enum Stop {
+pub enum PlainJobStop {
     /// The job ends inside a command.
     Cut,
     /// The byte at this offset of the job is refused for this cause.
@@ -12,9 +12,9 @@ pub enum Stop {
     Memory,
 }
 
-impl From<AllocError> for Stop {
-    fn from(_error: AllocError) -> Stop {
-        Stop::Memory
+impl From<AllocError> for PlainJobStop {
+    fn from(_error: AllocError) -> PlainJobStop {
+        PlainJobStop::Memory
     }
 }
 
@@ -85,9 +85,9 @@ pub struct JobBytesLeft<'a> {
 }
 
 impl JobBytesLeft<'_> {
-    fn byte(&mut self) -> Result<u8, Stop> {
+    fn byte(&mut self) -> Result<u8, PlainJobStop> {
         let Some((byte, rest)) = self.rest.split_first() else {
-            return Err(Stop::Cut);
+            return Err(PlainJobStop::Cut);
         };
         self.rest = rest;
         self.at = self.at.wrapping_add(1);
@@ -95,14 +95,14 @@ impl JobBytesLeft<'_> {
     }
 
     // Refuses a byte that was read, `back` bytes before the last one.
-    fn refuse<T>(&self, back: u64, cause: &'static str) -> Result<T, Stop> {
-        Err(Stop::Fault {
+    fn refuse<T>(&self, back: u64, cause: &'static str) -> Result<T, PlainJobStop> {
+        Err(PlainJobStop::Fault {
             at: self.at.wrapping_sub(back).wrapping_sub(1),
             cause,
         })
     }
 
-    fn said(&self, name: Name, numbers: &[u16]) -> Result<Said, Stop> {
+    fn said(&self, name: Name, numbers: &[u16]) -> Result<Said, PlainJobStop> {
         Ok(Said {
             at: self.last,
             name,
@@ -112,7 +112,7 @@ impl JobBytesLeft<'_> {
     }
 
     // A number of one byte, from `least` to `most`.
-    fn number(&mut self, least: u8, most: u8) -> Result<u16, Stop> {
+    fn number(&mut self, least: u8, most: u8) -> Result<u16, PlainJobStop> {
         let number = self.byte()?;
         if number < least || number > most {
             return self.refuse(0, "BadValue");
@@ -121,7 +121,7 @@ impl JobBytesLeft<'_> {
     }
 
     // A number of two bytes, the low byte first, from `least` to `most`.
-    fn wide(&mut self, least: u16, most: u16) -> Result<u16, Stop> {
+    fn wide(&mut self, least: u16, most: u16) -> Result<u16, PlainJobStop> {
         let low = self.byte()?;
         let high = self.byte()?;
         let number = u16::from_le_bytes([low, high]);
@@ -132,7 +132,7 @@ impl JobBytesLeft<'_> {
     }
 
     // A byte of a length.
-    fn length_byte(&mut self, wanted: u8) -> Result<(), Stop> {
+    fn length_byte(&mut self, wanted: u8) -> Result<(), PlainJobStop> {
         if self.byte()? == wanted {
             Ok(())
         } else {
@@ -141,13 +141,13 @@ impl JobBytesLeft<'_> {
     }
 
     // The two bytes of a length.
-    fn length(&mut self, length: u8) -> Result<(), Stop> {
+    fn length(&mut self, length: u8) -> Result<(), PlainJobStop> {
         self.length_byte(length)?;
         self.length_byte(0)
     }
 
     /// The next command.
-    pub fn command(&mut self) -> Result<Said, Stop> {
+    pub fn command(&mut self) -> Result<Said, PlainJobStop> {
         self.last = self.at;
         match self.byte()? {
             0x1B => self.escape(),
@@ -157,7 +157,7 @@ impl JobBytesLeft<'_> {
         }
     }
 
-    fn escape(&mut self) -> Result<Said, Stop> {
+    fn escape(&mut self) -> Result<Said, PlainJobStop> {
         match self.byte()? {
             b'@' => self.said(Name::Init, &[]),
             b'U' => {
@@ -181,7 +181,7 @@ impl JobBytesLeft<'_> {
         }
     }
 
-    fn sized(&mut self) -> Result<Said, Stop> {
+    fn sized(&mut self) -> Result<Said, PlainJobStop> {
         let (name, length) = match self.byte()? {
             b'G' => (Name::Graphics, 1),
             b'U' => (Name::Unit, 1),
@@ -215,7 +215,7 @@ impl JobBytesLeft<'_> {
         }
     }
 
-    fn raster(&mut self) -> Result<Said, Stop> {
+    fn raster(&mut self) -> Result<Said, PlainJobStop> {
         let c = self.number(0, 1)?;
         let v = self.number(1, 255)?;
         let h = self.number(1, 255)?;
@@ -234,7 +234,7 @@ impl JobBytesLeft<'_> {
     }
 
     // Appends `count` bytes as they are.
-    fn copy(&mut self, count: usize, rows: &mut Vec<u8>) -> Result<(), Stop> {
+    fn copy(&mut self, count: usize, rows: &mut Vec<u8>) -> Result<(), PlainJobStop> {
         for _ in 0..count {
             rows.extend_from_slice(&[self.byte()?])?;
         }
@@ -242,7 +242,7 @@ impl JobBytesLeft<'_> {
     }
 
     // Appends a packet, of which the row takes at most `left` bytes, and gives their number.
-    fn packet(&mut self, left: usize, rows: &mut Vec<u8>) -> Result<usize, Stop> {
+    fn packet(&mut self, left: usize, rows: &mut Vec<u8>) -> Result<usize, PlainJobStop> {
         let control = usize::from(self.byte()?);
         let count = match control {
             0..=127 => control + 1,
@@ -262,7 +262,7 @@ impl JobBytesLeft<'_> {
     }
 
     // Appends a row of `width` bytes, by its packets.
-    fn coded_row(&mut self, width: usize, rows: &mut Vec<u8>) -> Result<(), Stop> {
+    fn coded_row(&mut self, width: usize, rows: &mut Vec<u8>) -> Result<(), PlainJobStop> {
         let mut left = width;
         for _ in 0..width {
             if left > 0 {

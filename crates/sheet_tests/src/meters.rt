@@ -17,25 +17,25 @@ fn count(meters: &mut Meters, dots: &InkCounts) -> Result<(), OverCap> {
 
 // A kind of meter.
 #[derive(Clone, Copy)]
-enum Kind {
+enum MeterKind {
     Dots,
     Card,
 }
 
 // A new meter of a kind, with this cap.
-fn meter_of(alloc: Global, kind: Kind, cap: u64) -> Result<Box<dyn Meter>, Fail> {
+fn meter_of(alloc: Global, kind: MeterKind, cap: u64) -> Result<Box<dyn Meter>, Fail> {
     match kind {
-        Kind::Dots => {
+        MeterKind::Dots => {
             let mut meter = DotMeter::make();
             meter.set_cap(cap);
             Ok(Box::new(alloc, meter)?)
         }
-        Kind::Card => Ok(Box::new(alloc, Card::make(cap))?),
+        MeterKind::Card => Ok(Box::new(alloc, Card::make(cap))?),
     }
 }
 
 // New meters of these kinds, with these caps.
-fn meters_of(alloc: Global, kinds: &[(Kind, u64)]) -> Result<Meters, Fail> {
+fn meters_of(alloc: Global, kinds: &[(MeterKind, u64)]) -> Result<Meters, Fail> {
     let mut meters: Meters = Vec::new(alloc);
     for (kind, cap) in kinds {
         meters.push(meter_of(alloc, *kind, *cap)?)?;
@@ -91,7 +91,7 @@ fn each(rt: &impl Abort, meters: &mut Meters, steps: &[Step]) {
 fn try_steps(
     rt: &impl Abort,
     alloc: Global,
-    kinds: &[(Kind, u64)],
+    kinds: &[(MeterKind, u64)],
     steps: &[Step],
     wanted: Option<InkCounts>,
 ) -> Result<(), Fail> {
@@ -126,12 +126,16 @@ fn a_tie_is_room_and_one_dot_more_is_not(rt: HostRuntime) -> Result<(), Fail> {
         Step::Count([0, 7, 0, 0], Some((0, 10, 16))),
     ];
     let sum = Some(counts(1, 2, 3, 4));
-    try_steps(&rt, rt.alloc(), &[(Kind::Dots, MOST)], &STEPS, sum)
+    try_steps(&rt, rt.alloc(), &[(MeterKind::Dots, MOST)], &STEPS, sum)
 }
 
 #[test]
 fn the_first_meter_without_room_is_named(rt: HostRuntime) -> Result<(), Fail> {
-    const KINDS: [(Kind, u64); 3] = [(Kind::Dots, MOST), (Kind::Card, 15), (Kind::Card, 3)];
+    const KINDS: [(MeterKind, u64); 3] = [
+        (MeterKind::Dots, MOST),
+        (MeterKind::Card, 15),
+        (MeterKind::Card, 3),
+    ];
     const STEPS: [Step; 3] = [
         Step::Count([0, 1, 1, 1], None),
         Step::Count([1, 0, 0, 0], Some((2, 3, 3))),
@@ -142,7 +146,7 @@ fn the_first_meter_without_room_is_named(rt: HostRuntime) -> Result<(), Fail> {
 
 #[test]
 fn a_cap_below_what_was_counted_leaves_no_room(rt: HostRuntime) -> Result<(), Fail> {
-    const KINDS: [(Kind, u64); 2] = [(Kind::Card, 50), (Kind::Dots, MOST)];
+    const KINDS: [(MeterKind, u64); 2] = [(MeterKind::Card, 50), (MeterKind::Dots, MOST)];
     const STEPS: [Step; 3] = [
         Step::Count([20, 5, 4, 3], None),
         Step::Cap(10),
@@ -153,7 +157,7 @@ fn a_cap_below_what_was_counted_leaves_no_room(rt: HostRuntime) -> Result<(), Fa
 
 #[test]
 fn totals_go_up_to_the_end_of_64_bits(rt: HostRuntime) -> Result<(), Fail> {
-    const KINDS: [(Kind, u64); 2] = [(Kind::Dots, MOST), (Kind::Card, MOST)];
+    const KINDS: [(MeterKind, u64); 2] = [(MeterKind::Dots, MOST), (MeterKind::Card, MOST)];
     const STEPS: [Step; 3] = [
         Step::Count([18_446_744_073_709_551_600, 0, 0, 0], None),
         Step::Count([0, 5, 5, 5], None),
@@ -169,7 +173,7 @@ fn no_meter_refuses_nothing_and_counts_nothing(rt: HostRuntime) -> Result<(), Fa
 }
 
 // Counts ten dots and six on each of two meters with a cap of 16: then both totals are 16, and no dot more is admitted.
-fn both_reach_16(rt: &impl Abort, alloc: Global, kinds: &[(Kind, u64)]) -> Result<(), Fail> {
+fn both_reach_16(rt: &impl Abort, alloc: Global, kinds: &[(MeterKind, u64)]) -> Result<(), Fail> {
     const STEPS: [Step; 4] = [
         Step::Cap(16),
         Step::Count([1, 2, 3, 4], None),
@@ -187,6 +191,14 @@ fn both_reach_16(rt: &impl Abort, alloc: Global, kinds: &[(Kind, u64)]) -> Resul
 
 #[test]
 fn two_meters_both_count_up_to_their_cap(rt: HostRuntime) -> Result<(), Fail> {
-    both_reach_16(&rt, rt.alloc(), &[(Kind::Dots, MOST), (Kind::Dots, MOST)])?;
-    both_reach_16(&rt, rt.alloc(), &[(Kind::Dots, 16), (Kind::Card, 16)])
+    both_reach_16(
+        &rt,
+        rt.alloc(),
+        &[(MeterKind::Dots, MOST), (MeterKind::Dots, MOST)],
+    )?;
+    both_reach_16(
+        &rt,
+        rt.alloc(),
+        &[(MeterKind::Dots, 16), (MeterKind::Card, 16)],
+    )
 }
