@@ -1,13 +1,11 @@
 -- What the gathered bytes of a command are.
-use Rattle.std.specs.Prelude.{◌≡◌, ℕ, ◌+◌, ◌-◌, ◌≤◌, List, [], ◌∷◌, ◌++◌, length, drop, slice_index}
+use Rattle.std.specs.Prelude.{◌≡◌, ℕ, ◌+◌, ◌-◌, ◌≤◌, List, [], ◌∷◌, ◌++◌, length, drop, slice_index, Result, Ok, Err}
+use Rattle.std.specs.Borrow.{Bor}
 use Rattle.escp2_definitions.specs.declared.command.RasterHead.{RasterHead}
-use Rattle.escp2_definitions.specs.declared.stops.JobCause.TheVariants.{BadLength}
-use Rattle.escp2_definitions.specs.Commands.{Heard, command_bytes, last_column, raster_rows, sized}
+use Rattle.escp2_definitions.specs.Commands.{Heard, command_bytes, last_column, raster_rows, sized, two_bytes}
 use Rattle.escp2_definitions.specs.Commands.Heard.{One, Part, Wrong}
 use Rattle.escp2_reader.specs.declared.headers.HeaderState.{HeaderState}
 use Rattle.escp2_reader.specs.declared.headers.HeaderState.TheVariants as header
-use Rattle.escp2_reader.specs.declared.sized.LengthState.{LengthState}
-use Rattle.escp2_reader.specs.declared.sized.LengthState.TheVariants as len
 
 -- The numbers of a raster that its rows depend on are in range.
 pub record HasRows (raster : RasterHead) : Type 0 where
@@ -36,8 +34,24 @@ IsRead (header.Whole command) at read bytes = read bytes ≡ One command [] (len
 IsRead (header.Rows raster) at read bytes = IsRaster raster at read bytes
 IsRead (header.Fault place cause) at read bytes = read bytes ≡ Wrong place cause
 
--- the bytes are read as this, where a command's length is to be `wanted`
-abbrev pub IsLength : LengthState → ℕ → List ℕ → Type 0
-IsLength len.Part wanted bytes = (length bytes ≤ 1) × ((next : List ℕ → Heard) → sized wanted next bytes ≡ Part)
-IsLength (len.Wrong place) wanted bytes = (next : List ℕ → Heard) → sized wanted next bytes ≡ Wrong place BadLength
-IsLength (len.Right rest) wanted bytes = bytes ≡ wanted ∷ 0 ∷ rest.now
+-- the command of this letter after `ESC (` has a length of `wanted`, where this reads what follows `ESC`
+abbrev pub HasLength : (List ℕ → Heard) → ℕ → ℕ → Type 0
+HasLength read letter wanted = (rest : List ℕ)
+    → read (0x28 ∷ letter ∷ rest) ≡ sized wanted (λ bytes. read (0x28 ∷ letter ∷ wanted ∷ 0 ∷ bytes)) rest
+
+-- the bytes after a length of `wanted`, or what ends each command of that length
+abbrev pub IsLength : Result (Bor (List ℕ)) HeaderState → ℕ → List ℕ → Type 0
+IsLength (Ok rest) wanted bytes = bytes ≡ wanted ∷ 0 ∷ rest.now
+IsLength (Err end) wanted bytes = (read : List ℕ → Heard) (letter : ℕ) → HasLength read letter wanted → IsRead end 1 read (0x28 ∷ letter ∷ bytes)
+
+-- the byte after a length of 1, or what ends each command that has such a byte
+abbrev pub IsByte : Result ℕ HeaderState → List ℕ → Type 0
+IsByte (Ok n) bytes = bytes ≡ 1 ∷ 0 ∷ n ∷ drop 3 bytes
+IsByte (Err end) bytes = (read : List ℕ → Heard) (letter : ℕ) → HasLength read letter 1 → read (0x28 ∷ letter ∷ 1 ∷ 0 ∷ []) ≡ Part
+    → IsRead end 1 read (0x28 ∷ letter ∷ bytes)
+
+-- the number after a length of 2, or what ends each command that has such a number
+abbrev pub IsNumber : Result ℕ HeaderState → List ℕ → Type 0
+IsNumber (Ok n) bytes = bytes ≡ 2 ∷ 0 ∷ (two_bytes n ++ drop 4 bytes)
+IsNumber (Err end) bytes = (read : List ℕ → Heard) (letter : ℕ) → HasLength read letter 2 → read (0x28 ∷ letter ∷ 2 ∷ 0 ∷ []) ≡ Part
+    → ((low : ℕ) → read (0x28 ∷ letter ∷ 2 ∷ 0 ∷ low ∷ []) ≡ Part) → IsRead end 1 read (0x28 ∷ letter ∷ bytes)
