@@ -89,24 +89,20 @@ packet-told left at (n ∷ bytes) = by_control (control_of n) refl
         step more =
             ap (λ (c : Control). controlled c left at more) is ∙ ap (λ b. if b then RowsWrong at else plain_at k (at + 1) more) e
 
+        longer : {r : RowsRead} {end : ℕ} → FrontTells (plain_at k (at + 1)) (at + 1) bytes r end
+            → FrontTells (packet_at left at) at (n ∷ bytes) r end
+        longer t = record {
+          front = n ∷ t.front;
+          rest = t.rest;
+          is = ap (λ bs. n ∷ bs) t.is;
+          there = omega (arith, t.there);
+          told = λ more. step (t.front ++ more) ∙ t.told more;
+        }
+
         by_more : (r : RowsRead) → RowsTold (plain_at k (at + 1)) (at + 1) bytes r → RowsTold (packet_at left at) at (n ∷ bytes) r
-        by_more (RowsAre rows next) t =
-            record {
-              front = n ∷ t.front;
-              rest = t.rest;
-              is = ap (λ bs. n ∷ bs) t.is;
-              there = omega (arith, t.there);
-              told = λ more. step (t.front ++ more) ∙ t.told more;
-            }
+        by_more (RowsAre rows next) t = longer t
         by_more RowsPart t = tt
-        by_more (RowsWrong place) t =
-            record {
-              front = n ∷ t.front;
-              rest = t.rest;
-              is = ap (λ bs. n ∷ bs) t.is;
-              there = omega (arith, t.there);
-              told = λ more. step (t.front ++ more) ∙ t.told more;
-            }
+        by_more (RowsWrong place) t = longer t
 
     repeated : (k : ℕ) → control_of n ≡ Again k → (b : Bool) → nat_lt left k ≡ b → (bytes : List ℕ)
         → RowsTold (packet_at left at) at (n ∷ bytes) (if b then RowsWrong at else again_at k (at + 1) bytes)
