@@ -76,10 +76,11 @@ fn planes_of(alloc: Global, dots: Dots, width: u32, rows: u32) -> Result<Planes,
 }
 
 // A printer with this head, and the least top margin that it can have.
-fn printer_of((nozzles, pitch): (u8, u8)) -> Profile
+fn printer_of(head: (u8, u8)) -> Profile
     ensures rows { result.vdpi ≡ 360 }
     ensures inks { length (inks_of result.inks) ≡ 1 }
 {
+    let (nozzles, pitch) = head;
     Profile {
         nozzles,
         pitch,
