@@ -1,10 +1,9 @@
 //! Pages of windows under a head, and what writing them gives.
 ghost use Rattle.base_definitions.specs.Limits.{most_columns, most_rows};
 ghost use Rattle.dead_nozzles.specs.Dead.{IsRising};
-ghost use Rattle.printer_definitions.specs.Inks.{inks_of};
 ghost use Rattle.pwg_definitions.specs.Header.{IsWanted};
 ghost use Rattle.separation_definitions.specs.Windows.{wanted_by};
-ghost use Rattle.std.specs.Prelude.{IfOk, IsTrue, length, ◌≡◌, ◌≤◌};
+ghost use Rattle.std.specs.Prelude.{IfOk, IsTrue, ◌≡◌, ◌≤◌};
 
 use crate::checks::same;
 use base_definitions::Memory;
@@ -75,20 +74,6 @@ fn planes_of(alloc: Global, dots: Dots, width: u32, rows: u32) -> Result<Planes,
     Ok(planes)
 }
 
-// A printer with this head, and the least top margin that it can have.
-fn printer_of(head: (u8, u8)) -> Profile
-    ensures rows { result.vdpi ≡ 360 }
-    ensures inks { length (inks_of result.inks) ≡ 1 }
-{
-    let (nozzles, pitch) = head;
-    Profile {
-        nozzles,
-        pitch,
-        top: u16::from(nozzles.max(1) - 1) * u16::from(pitch),
-        ..TINY1
-    }
-}
-
 // A grey page with a window of this size.
 fn form_of(p: &Profile, (width, rows): (u32, u32)) -> PageForm {
     PageForm {
@@ -124,8 +109,13 @@ pub fn write<R: Abort + Threads + Sync>(
 ) -> Result<(Result<PageSum, WriteStop>, MemSink), Fail>
     requires { IsRising dead.now }
 {
-    let (way, head, size, dots) = page;
-    let p = printer_of(head);
+    let (way, (nozzles, pitch), size, dots) = page;
+    let p = Profile {
+        nozzles,
+        pitch,
+        top: u16::from(nozzles.max(1) - 1) * u16::from(pitch),
+        ..TINY1
+    };
     let f = form_of(&p, size);
     assert!(rt; p.check() == Ok(()));
     assert!(rt; is_taken(&p, f));
@@ -140,11 +130,11 @@ pub fn write<R: Abort + Threads + Sync>(
     let answer = match way {
         Way::Plain => write_page(&team, alloc, &p, f, &planes, &mut sink),
         Way::Shingled => {
-            assert!(rt; shingle_fits(p.nozzles, p.pitch));
+            assert!(rt; shingle_fits(nozzles, pitch));
             write_shingled(&team, alloc, &p, f, &planes, &mut sink)
         }
         Way::Healed => {
-            assert!(rt; check_dead(p.nozzles, dead) == Ok(()));
+            assert!(rt; check_dead(nozzles, dead) == Ok(()));
             write_healed(&team, alloc, &p, f, &planes, dead, &mut sink)
         }
     };
