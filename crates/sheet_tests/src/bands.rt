@@ -8,14 +8,12 @@ use std::process::Abort;
 use std::test::Fail;
 use tile_shape::{Place, Shape};
 
-// A packed row of 2976 dots.
-const FULL: [u8; 372] = [0xFF; 372];
-
-// Sets every dot of a row.
-fn fill_row(rt: &impl Abort, planes: &mut Planes, ink: u8, y: u32) {
+// Sets every dot of a row, by the packed bytes of a full one.
+fn fill_row(rt: &impl Abort, planes: &mut Planes, ink: u8, y: u32, full: &[u8]) {
     let width = planes.width();
-    assert!(rt; width <= 2976 && ink < planes.inks() && y < planes.rows());
-    planes.lay(ink, y, 0, &FULL[..(width as usize + 7) / 8], width);
+    assert!(rt; width <= 3000 && full.len() == (width as usize + 7) / 8);
+    assert!(rt; ink < planes.inks() && y < planes.rows());
+    planes.lay(ink, y, 0, full, width);
 }
 
 // Planes of three inks, full of dots.
@@ -26,9 +24,10 @@ fn full_planes(rt: &impl Abort, alloc: Global, width: u32, rows: u32) -> Result<
     requires rows { rows ≤ 100 }
 {
     let mut planes = Planes::make(alloc, width, rows, 3)?;
+    let full = vec![in alloc; 0xFF; (width as usize + 7) / 8]?;
     for ink in 0..3 {
         for y in 0..rows {
-            fill_row(rt, &mut planes, ink, y);
+            fill_row(rt, &mut planes, ink, y, &full);
         }
     }
     Ok(planes)
@@ -37,11 +36,10 @@ fn full_planes(rt: &impl Abort, alloc: Global, width: u32, rows: u32) -> Result<
 // Pseudo-random bytes for an ink of a tile.
 fn fill_ink(rt: &impl Abort, bits: &mut TileBits, ink: u8, start: u32) {
     assert!(rt; ink < bits.inks());
-    let bytes = bits.ink_mut(ink);
     let mut seed = start;
-    for n in 0..256 {
+    for byte in bits.ink_mut(ink).iter_mut() {
         seed = seed.wrapping_mul(1_664_525).wrapping_add(1_013_904_223);
-        bytes[n] = (seed >> 24) as u8;
+        *byte = (seed >> 24) as u8;
     }
 }
 
