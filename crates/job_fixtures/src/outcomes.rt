@@ -41,18 +41,18 @@ fn read(alloc: Global, job: &[u8]) -> Result<Commands, AllocError> {
     let mut said = Vec::new(alloc);
     let mut stop = None;
     let mut unread = JobBytesLeft {
-        rest: job,
+        job,
         at: 0,
         last: 0,
         alloc,
     };
     for _ in 0..job.len() {
-        if unread.rest.is_empty() || stop.is_some() {
+        if unread.at >= job.len() || stop.is_some() {
             break;
         }
         match unread.command() {
             Ok(command) => said.push(command)?,
-            Err(PlainJobStop::Cut) => stop = Some((unread.last, "Cut")),
+            Err(PlainJobStop::Cut) => stop = Some((unread.last as u64, "Cut")),
             Err(PlainJobStop::Fault { at, cause }) => stop = Some((at, cause)),
             Err(PlainJobStop::Memory) => return Err(AllocError),
         }

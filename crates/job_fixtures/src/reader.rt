@@ -75,36 +75,33 @@ impl Said {
     }
 }
 
-/// The unread bytes of a job, and the offsets of the first of them and of the last command.
+/// A job, and the offsets of its first unread byte and of the last command.
 #[derive(Clone, Copy)]
 pub struct JobBytesLeft<'a> {
-    pub rest: &'a [u8],
-    pub at: u64,
-    pub last: u64,
+    pub job: &'a [u8],
+    pub at: usize,
+    pub last: usize,
     pub alloc: Global,
 }
 
 impl JobBytesLeft<'_> {
     fn byte(&mut self) -> Result<u8, PlainJobStop> {
-        let Some((byte, rest)) = self.rest.split_first() else {
-            return Err(PlainJobStop::Cut);
-        };
-        self.rest = rest;
-        self.at = self.at.wrapping_add(1);
-        Ok(*byte)
+        let byte = self.job.get(self.at).copied();
+        self.at = self.at.saturating_add(1);
+        byte.ok_or(PlainJobStop::Cut)
     }
 
     // Refuses a byte that was read, `back` bytes before the last one.
     fn refuse<T>(&self, back: u64, cause: &'static str) -> Result<T, PlainJobStop> {
         Err(PlainJobStop::Fault {
-            at: self.at.wrapping_sub(back).wrapping_sub(1),
+            at: (self.at as u64).wrapping_sub(back).wrapping_sub(1),
             cause,
         })
     }
 
     fn said(&self, name: Name, numbers: &[u16]) -> Result<Said, PlainJobStop> {
         Ok(Said {
-            at: self.last,
+            at: self.last as u64,
             name,
             numbers: numbers.to_vec(self.alloc)?,
             rows: Vec::new(self.alloc),
@@ -235,9 +232,12 @@ impl JobBytesLeft<'_> {
 
     // Appends `count` bytes as they are.
     fn copy(&mut self, count: usize, rows: &mut Vec<u8>) -> Result<(), PlainJobStop> {
-        for _ in 0..count {
-            rows.extend_from_slice(&[self.byte()?])?;
-        }
+        let end = self.at.saturating_add(count);
+        let Some(bytes) = self.job.get(self.at..end) else {
+            return Err(PlainJobStop::Cut);
+        };
+        self.at = end;
+        rows.extend_from_slice(bytes)?;
         Ok(())
     }
 
