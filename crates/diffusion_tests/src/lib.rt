@@ -1,7 +1,12 @@
-//! Tests of error diffusion: of one pixel, of the plain program by the definition, and of slabs that a team diffuses,
-//! which are compared with the plain program dot by dot and error by error.
+//! Tests of error diffusion: of one pixel, of the plain program by the definition, of tiles and of boards, and of slabs
+//! that a team diffuses, which are compared with the plain program dot by dot and error by error.
+//!
+//! Boards that several passes work have the dots of the definition, those that two threads work the dots that an
+//! independent program computed, and claims carry the words that they found.
 #![tactic(auto)]
 
+#[cfg(test)]
+mod boards;
 #[cfg(test)]
 mod gates;
 #[cfg(test)]
@@ -12,5 +17,7 @@ mod plain;
 mod slabs;
 #[cfg(test)]
 mod team;
+#[cfg(test)]
+mod tiles;
 #[cfg(test)]
 mod windows;

@@ -16,7 +16,7 @@ pub struct Printer {
     pub limits: (u8, u8, u8, u8),
     /// The tone curves of black, cyan, magenta and yellow; those of none are straight, and its text has no keys of
     /// them.
-    pub curves: Option<[[u16; 17]; 4]>,
+    pub curves: Option<&'static [[u16; 17]; 4]>,
     pub left: u16,
     pub right: u16,
     pub top: u16,
@@ -72,7 +72,7 @@ impl Printer {
             self.left, self.right, self.top, self.bottom
         )?;
         let mut text = format!(in alloc; "{}{}{}", head, colours, margins)?;
-        if let Some(curves) = &self.curves {
+        if let Some(curves) = self.curves {
             for (ink, curve) in ["k", "c", "m", "y"].iter().zip(curves) {
                 push_curve(alloc, ink, curve, &mut text)?;
             }
@@ -82,7 +82,7 @@ impl Printer {
 
     /// The tone of an amount of an ink.
     pub fn tone(&self, ink: Ink, amount: u8) -> u8 {
-        let Some([black, cyan, magenta, yellow]) = &self.curves else {
+        let Some([black, cyan, magenta, yellow]) = self.curves else {
             return amount;
         };
         let curve = match ink {

@@ -11,6 +11,8 @@ mod calls;
 #[cfg(test)]
 mod colours;
 #[cfg(test)]
+mod faults;
+#[cfg(test)]
 mod fixture;
 #[cfg(test)]
 mod gates;

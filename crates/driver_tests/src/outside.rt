@@ -1,4 +1,4 @@
-//! Runs whose reads or writes fail, in the pages of a stream. `driver_fault_tests` has every call that can fail.
+//! Runs whose reads or writes fail, in the pages of a stream. `faults` has every call that can fail.
 use crate::fixture::{
     GREY_BODY, GREY_JOB, GREY_STREAM, PRINT, TINY, Wanted, leaves, leaves_parts, one_page,
     run_metered, two_pages,

@@ -79,7 +79,7 @@ fn each_kind_is_printed_through_curves(rt: HostRuntime) -> Result<(), Fail> {
     let alloc = rt.alloc();
     for inks in [InkSet::K, InkSet::Cmy, InkSet::Cmyk] {
         let printer = Printer {
-            curves: Some(CURVES),
+            curves: Some(&CURVES),
             ..printer_of(inks)
         };
         for (kind, seed) in KINDS.into_iter().zip(11u64..16) {

@@ -1,9 +1,11 @@
-//! Tests of the writer of pages, by one worker and by several, and of the interleaved and the shingled passes and the
-//! strokes of heads with dead nozzles that it writes.
+//! Tests of pages on paper: of what is made of a page's pixels, and of the writer of pages, by one worker and by
+//! several, with the interleaved and the shingled passes and the strokes of heads with dead nozzles that it writes.
 #![tactic(auto)]
 
 #[cfg(test)]
 mod checks;
+#[cfg(test)]
+mod halftones;
 #[cfg(test)]
 mod healed;
 #[cfg(test)]

@@ -1,0 +1,16 @@
+//! Runs over hostile input, and with an outside that fails: every prefix, every failing read and write, and every byte
+//! changed.
+//!
+//! The expected values are those of slow programs that follow the definitions and share no code with the driver.
+
+mod answers;
+mod changed;
+mod inputs;
+mod machine;
+mod passes;
+mod plain_head;
+mod plain_stream;
+mod prefixes;
+mod reads;
+mod runs;
+mod writes;

@@ -1,0 +1,57 @@
+//! Every prefix of a stream and of a job.
+use crate::faults::inputs::Input;
+use crate::faults::runs::{BY_BYTES, Calls, DriverCommand, leaves};
+use driver_fixtures::prefix;
+use std::alloc::Global;
+use std::process::Abort;
+use std::test::Fail;
+use std::thread::Threads;
+
+// A command, its input, and the most bytes of a read.
+type Case = (DriverCommand, Input, u32);
+
+// Asserts the answer to each prefix of an input.
+fn try_prefixes<R: Abort + Threads + Sync>(
+    rt: &R,
+    alloc: Global,
+    (command, input, piece): Case,
+) -> Result<(), Fail> {
+    let whole = input.bytes(alloc)?;
+    let calls = Calls { piece, ..BY_BYTES };
+    for count in 0..whole.len().saturating_add(1) {
+        let bytes = prefix(&whole, count);
+        let wanted = command.answer(alloc, bytes)?;
+        leaves(rt, alloc, command, bytes, calls, &wanted)?;
+    }
+    Ok(())
+}
+
+// Asserts the answer to each prefix of each input.
+fn try_all<R: Abort + Threads + Sync>(rt: &R, alloc: Global, cases: &[Case]) -> Result<(), Fail> {
+    for case in cases {
+        try_prefixes(rt, alloc, *case)?;
+    }
+    Ok(())
+}
+
+#[test]
+fn every_prefix_of_two_colour_pages_has_its_answer(rt: HostRuntime) -> Result<(), Fail> {
+    const CASES: [Case; 2] = [
+        (DriverCommand::PrintColours, Input::ColourPages, 64),
+        (DriverCommand::PrintBlack, Input::ColourPages, 1000),
+    ];
+    try_all(&rt, rt.alloc(), &CASES)
+}
+
+#[test]
+fn every_prefix_of_a_job_has_its_answer(rt: HostRuntime) -> Result<(), Fail> {
+    const CASES: [Case; 6] = [
+        (DriverCommand::Dots, Input::TinyJob, 1),
+        (DriverCommand::Dots, Input::CodedJob, 1),
+        (DriverCommand::Dots, Input::CodedJob, 50),
+        (DriverCommand::List, Input::TinyJob, 1),
+        (DriverCommand::List, Input::CodedJob, 1),
+        (DriverCommand::List, Input::CodedJob, 50),
+    ];
+    try_all(&rt, rt.alloc(), &CASES)
+}

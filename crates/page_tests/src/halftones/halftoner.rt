@@ -1,0 +1,220 @@
+//! Small pages against the definitions, dot by dot.
+ghost use Rattle.pwg_definitions.specs.Header.{IsWanted};
+ghost use Rattle.separation_definitions.specs.Windows.{wanted_by};
+ghost use Rattle.std.specs.Prelude.{IsTrue, ◌≤◌};
+
+use crate::halftones::definition::{CURVES, LIMITS, byte_at, wrong_dots};
+use diffusion_kernel::Kernel;
+use dot_planes::Planes;
+use page_halftoner::Halftoner;
+use printer_profile::{InkSet, PageForm, Profile, TINY1};
+use pwg_definitions::Kind;
+use std::alloc::Global;
+use std::process::Abort;
+use std::thread::Threads;
+use wavefront_team::{OpenGate, Team};
+
+// Whether the printer takes a page.
+fn is_taken(p: &Profile, f: PageForm) -> bool
+    ensures { IsTrue result → IsWanted (wanted_by p.now) f }
+{
+    let wanted = p.wanted();
+    wanted.least_width <= f.width
+        && f.width <= wanted.most_width
+        && wanted.least_height <= f.height
+        && f.height <= wanted.most_height
+        && f.bytes_per_line as usize == f.kind.line_bytes(f.width as usize)
+}
+
+// A printer with these inks, and with limits, curves and margins.
+fn printer(inks: InkSet) -> Profile {
+    Profile {
+        inks,
+        black_start: 64,
+        limits: LIMITS,
+        curves: CURVES,
+        left: 2,
+        right: 1,
+        top: 1,
+        bottom: 2,
+        ..TINY1
+    }
+}
+
+fn form(kind: Kind, width: u32, height: u32) -> PageForm {
+    PageForm {
+        width,
+        height,
+        kind,
+        bytes_per_line: u32::try_from(kind.line_bytes(width as usize)).unwrap_or(0),
+    }
+}
+
+// The most bytes of a line.
+const LONGEST: usize = 3072;
+
+// A line of the page, and bytes after it.
+fn line_at(kind: Kind, y: u32) -> [u8; LONGEST] {
+    let mut line = [0u8; LONGEST];
+    let unit = kind.unit() as u32;
+    for (n, byte) in line.iter_mut().enumerate() {
+        let n = (n % LONGEST) as u32;
+        *byte = byte_at(n / unit, y, n % unit);
+    }
+    line
+}
+
+// The dots of a page each of whose lines stands this many times, by this many workers.
+fn planes_of<R: Threads + Sync>(
+    rt: &R,
+    alloc: Global,
+    p: &Profile,
+    f: PageForm,
+    kernel: Kernel,
+    copies: u32,
+    workers: u8,
+) -> Option<Planes>
+    requires workers { (1 ≤ workers) × (workers ≤ 64) }
+    requires copies { 1 ≤ copies }
+{
+    if p.check().is_err() || !is_taken(p, f) || f.bytes_per_line > LONGEST as u32 {
+        return None;
+    }
+    let mut h = Halftoner::begin(alloc, p, f, kernel).ok()?;
+    let team = Team {
+        threads: rt,
+        workers,
+        gate: &OpenGate,
+    };
+    let mut y = 0;
+    while y < f.height {
+        let line = line_at(f.kind, y / copies);
+        let line = &line[..f.bytes_per_line as usize];
+        let repeats = copies.min(f.height - y);
+        match h.lines(&team, line, repeats) {
+            Ok(()) => {}
+            Err(_) => return None,
+        }
+        y += repeats;
+    }
+    Some(h.finish())
+}
+
+// The inks, columns and rows of such a page, and how many dots in all inks are not those of the definition.
+fn wrong_in<R: Threads + Sync>(
+    rt: &R,
+    alloc: Global,
+    p: &Profile,
+    f: PageForm,
+    kernel: Kernel,
+    copies: u32,
+    workers: u8,
+) -> Option<(u8, u32, u32, u32)>
+    requires workers { (1 ≤ workers) × (workers ≤ 64) }
+    requires copies { 1 ≤ copies }
+{
+    let planes = planes_of(rt, alloc, p, f, kernel, copies, workers)?;
+    let mut wrong = 0u32;
+    for i in 0..p.inks.count() {
+        let more = wrong_dots(p, f, kernel, copies, &planes, i, p.inks.at(i));
+        wrong = wrong.saturating_add(more);
+    }
+    Some((planes.inks(), planes.width(), planes.rows(), wrong))
+}
+
+const KINDS: [Kind; 5] = [
+    Kind::Gray8,
+    Kind::Black8,
+    Kind::Rgb8,
+    Kind::Black1,
+    Kind::Cmyk8,
+];
+
+// All small pages on a printer by a kernel.
+fn each_page<R: Abort + Threads + Sync>(rt: &R, alloc: Global, p: &Profile, kernel: Kernel) {
+    for &kind in &KINDS {
+        for (width, height) in [(1, 5), (7, 256), (8, 257), (9, 515)] {
+            let f = form(kind, width + 3, height + 3);
+            let found = wrong_in(rt, alloc, p, f, kernel, 1, 2);
+            let want = Some((p.inks.count(), width, height, 0));
+            assert!(rt; found == want, "{kind:?} at {width} by {height}: {found:?}");
+        }
+    }
+}
+
+#[test]
+fn small_pages_have_the_dots_of_the_definition(rt: HostRuntime) {
+    let alloc = rt.alloc();
+    each_page(&rt, alloc, &printer(InkSet::K), Kernel::Floyd);
+    each_page(&rt, alloc, &printer(InkSet::Cmy), Kernel::Jarvis);
+    each_page(&rt, alloc, &printer(InkSet::Cmyk), Kernel::Stucki);
+}
+
+// A wide page of five bands, which are one slab.
+#[test]
+fn errors_cross_the_bands_of_a_wide_page(rt: HostRuntime) {
+    let p = printer(InkSet::Cmyk);
+    let f = form(Kind::Gray8, 3003, 133);
+    for workers in [1, 2] {
+        let found = wrong_in(&rt, rt.alloc(), &p, f, Kernel::Floyd, 1, workers);
+        assert!(rt; found == Some((4, 3000, 130, 0)), "by {workers}: {found:?}");
+    }
+}
+
+// Tiles that have all their pixels, in which rows have the line of the row above them.
+#[test]
+fn lines_that_stand_more_than_once(rt: HostRuntime) {
+    let p = printer(InkSet::Cmyk);
+    for &kind in &KINDS {
+        for copies in [2, 3, 40] {
+            let f = form(kind, 203, 73);
+            let found = wrong_in(&rt, rt.alloc(), &p, f, Kernel::Floyd, copies, 2);
+            assert!(rt;
+                found == Some((4, 200, 70, 0)),
+                "{kind:?} by {copies}: {found:?}"
+            );
+        }
+    }
+}
+
+// The rows of a page of one column that have a dot. Each of its lines is the byte 9B.
+fn rows_with_dots<R: Threads + Sync>(rt: &R, alloc: Global, height: u32) -> Option<Vec<u32>> {
+    let p = TINY1;
+    let f = form(Kind::Gray8, 1, height);
+    if p.check().is_err() || !is_taken(&p, f) || f.bytes_per_line != 1 || f.height != height {
+        return None;
+    }
+    let mut h = Halftoner::begin(alloc, &p, f, Kernel::Floyd).ok()?;
+    let team = Team {
+        threads: rt,
+        workers: 1,
+        gate: &OpenGate,
+    };
+    match h.lines(&team, &[0x9B], height) {
+        Ok(()) => {}
+        Err(_) => return None,
+    }
+    let planes = h.finish();
+    if planes.inks() != 1 || planes.width() != 1 || planes.rows() != height {
+        return None;
+    }
+    let mut rows = Vec::new(alloc);
+    for y in 0..height {
+        if planes.dot(0, 0, y) {
+            rows.push(y).ok()?;
+        }
+    }
+    Some(rows)
+}
+
+#[test]
+fn errors_cross_the_slab_at_row_256(rt: HostRuntime) {
+    let Some(rows) = rows_with_dots(&rt, rt.alloc(), 257) else {
+        assert!(rt; false, "no planes");
+        return;
+    };
+    assert_eq!(rt; rows.len(), 86);
+    for (n, y) in rows.iter().enumerate() {
+        assert!(rt; *y as usize == 3 * n + 1, "at {n}");
+    }
+}

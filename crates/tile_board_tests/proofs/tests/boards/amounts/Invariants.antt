@@ -1,8 +1,0 @@
-use Rattle.std.proofs.Common.{◌≡◌}
-use Rattle.tile_board_tests.proofs.tests.boards.amounts.Given as goal
-
-abbrev pub invariant-loop-i : goal.invariant-loop-i
-invariant-loop-i l = record { width : l.rows.width ≡ l.width; inks : l.rows.inks ≡ l.inks }
-
-abbrev pub invariant-loop-y : goal.invariant-loop-y
-invariant-loop-y l = record { width : l.rows.width ≡ l.width; inks : l.rows.inks ≡ l.inks }

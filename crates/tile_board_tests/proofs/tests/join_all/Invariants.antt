@@ -1,9 +1,0 @@
-use Rattle.std.proofs.Common.{vec_len}
-use Rattle.tile_board_tests.specs.Workers.{AllIdle, IsIdle}
-use Rattle.tile_board_tests.proofs.tests.join_all.Given as goal
-
-abbrev pub invariant-loop-q : goal.invariant-loop-q
-invariant-loop-q l = IsIdle l.board l.p × AllIdle l.board l.passes.items
-
-abbrev pub decreases-loop-q : goal.decreases-loop-q
-decreases-loop-q l = vec_len l.passes

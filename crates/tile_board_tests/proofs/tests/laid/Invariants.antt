@@ -1,5 +1,0 @@
-use Rattle.std.proofs.Common.{◌≡◌}
-use Rattle.tile_board_tests.proofs.tests.laid.Given as goal
-
-abbrev pub invariant-loop-tile : goal.invariant-loop-tile
-invariant-loop-tile l = record { width : l.planes.width ≡ 200; rows : l.planes.rows ≡ 70; inks : l.planes.inks ≡ 1 }

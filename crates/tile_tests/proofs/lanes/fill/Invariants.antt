@@ -1,5 +1,0 @@
-use Rattle.diffusion_definitions.specs.Diffusion.{EachInRange}
-use Rattle.tile_tests.proofs.lanes.fill.Given as goal
-
-abbrev pub invariant-loop-n : goal.invariant-loop-n
-invariant-loop-n l = EachInRange l.edge
