@@ -102,97 +102,99 @@ fn a_profile_with_just_enough_margin_is_shown_whole(rt: HostRuntime) -> Result<(
     try_texts(&rt, rt.alloc(), &ROWS)
 }
 
+const FAILED_CHECKS: [TextRow; 9] = [
+    (
+        &[
+            JUST_ENOUGH_2,
+            b"curve_k=0,16,8,256,256,256,256,256,256,256,256,256,256,256,256,256,256\n",
+        ],
+        (2, &[], b"profile: line 0: Curve 0\n"),
+    ),
+    (
+        &[
+            JUST_ENOUGH_2,
+            b"curve_y=1,1,1,1,1,1,1,1,1,1,1,1,1,1,1,1,1\n",
+        ],
+        (2, &[], b"profile: line 0: Curve 3\n"),
+    ),
+    (
+        &[b"escp2-profile 1\nvdpi=720\nnozzles=32\npitch=8\ninks=k\ntop=300\nhdpi=360\n"],
+        (2, &[], b"profile: line 0: NotCoprime 8\n"),
+    ),
+    (
+        &[b"escp2-profile 1\nvdpi=720\nnozzles=31\npitch=8\ninks=k\ntop=239\nhdpi=360\n"],
+        (2, &[], b"profile: line 0: TopMargin 240\n"),
+    ),
+    (
+        &[b"escp2-profile 1\nvdpi=360\nnozzles=1\npitch=26\ninks=k\nhdpi=360\n"],
+        (2, &[], b"profile: line 0: RowStep\n"),
+    ),
+    (
+        &[b"escp2-profile 1\nvdpi=360\nnozzles=0\npitch=26\ninks=k\nhdpi=360\n"],
+        (2, &[], b"profile: line 0: Nozzles\n"),
+    ),
+    (
+        &[b"escp2-profile 1\nvdpi=360\nnozzles=1\npitch=0\ninks=k\nhdpi=360\n"],
+        (2, &[], b"profile: line 0: Pitch\n"),
+    ),
+    (
+        &[b"escp2-profile 1\nvdpi=300\nnozzles=0\npitch=0\ninks=k\nhdpi=360\n"],
+        (2, &[], b"profile: line 0: Resolution\n"),
+    ),
+    (
+        &[b"escp2-profile 1\nvdpi=360\nnozzles=1\npitch=1\ninks=k\nhdpi=720\nblack_start=255"],
+        (2, &[], b"profile: line 0: BlackStart\n"),
+    ),
+];
+
 #[test]
 fn profile_checks_name_gcd_margin_and_step(rt: HostRuntime) -> Result<(), Fail> {
-    const ROWS: [TextRow; 9] = [
-        (
-            &[
-                JUST_ENOUGH_2,
-                b"curve_k=0,16,8,256,256,256,256,256,256,256,256,256,256,256,256,256,256\n",
-            ],
-            (2, &[], b"profile: line 0: Curve 0\n"),
-        ),
-        (
-            &[
-                JUST_ENOUGH_2,
-                b"curve_y=1,1,1,1,1,1,1,1,1,1,1,1,1,1,1,1,1\n",
-            ],
-            (2, &[], b"profile: line 0: Curve 3\n"),
-        ),
-        (
-            &[b"escp2-profile 1\nvdpi=720\nnozzles=32\npitch=8\ninks=k\ntop=300\nhdpi=360\n"],
-            (2, &[], b"profile: line 0: NotCoprime 8\n"),
-        ),
-        (
-            &[b"escp2-profile 1\nvdpi=720\nnozzles=31\npitch=8\ninks=k\ntop=239\nhdpi=360\n"],
-            (2, &[], b"profile: line 0: TopMargin 240\n"),
-        ),
-        (
-            &[b"escp2-profile 1\nvdpi=360\nnozzles=1\npitch=26\ninks=k\nhdpi=360\n"],
-            (2, &[], b"profile: line 0: RowStep\n"),
-        ),
-        (
-            &[b"escp2-profile 1\nvdpi=360\nnozzles=0\npitch=26\ninks=k\nhdpi=360\n"],
-            (2, &[], b"profile: line 0: Nozzles\n"),
-        ),
-        (
-            &[b"escp2-profile 1\nvdpi=360\nnozzles=1\npitch=0\ninks=k\nhdpi=360\n"],
-            (2, &[], b"profile: line 0: Pitch\n"),
-        ),
-        (
-            &[b"escp2-profile 1\nvdpi=300\nnozzles=0\npitch=0\ninks=k\nhdpi=360\n"],
-            (2, &[], b"profile: line 0: Resolution\n"),
-        ),
-        (
-            &[b"escp2-profile 1\nvdpi=360\nnozzles=1\npitch=1\ninks=k\nhdpi=720\nblack_start=255"],
-            (2, &[], b"profile: line 0: BlackStart\n"),
-        ),
-    ];
-    try_texts(&rt, rt.alloc(), &ROWS)
+    try_texts(&rt, rt.alloc(), &FAILED_CHECKS)
 }
+
+const BAD_TEXTS: [TextRow; 10] = [
+    (
+        &[JUST_ENOUGH_2, b"curve_k=0,16\n"],
+        (2, &[], b"profile: line 8: BadValue\n"),
+    ),
+    (
+        &[JUST_ENOUGH, b"curve_k=0,16\n"],
+        (2, &[], b"profile: line 8: UnknownKey\n"),
+    ),
+    (&[b""], (2, &[], b"profile: line 1: BadHead\n")),
+    (
+        &[b"escp2-profile 3\n"],
+        (2, &[], b"profile: line 1: BadHead\n"),
+    ),
+    (
+        &[b"escp2-profile 1\n#\xFF\nh\xFF=1\n"],
+        (2, &[], b"profile: line 3: NotAscii\n"),
+    ),
+    (
+        &[b"escp2-profile 1\n\nhdpi\n"],
+        (2, &[], b"profile: line 3: NoEquals\n"),
+    ),
+    (
+        &[b"escp2-profile 1\r\ndpi=1\r\n"],
+        (2, &[], b"profile: line 2: UnknownKey\n"),
+    ),
+    (
+        &[b"escp2-profile 1\ntop=1\ntop=x\n"],
+        (2, &[], b"profile: line 3: RepeatedKey\n"),
+    ),
+    (
+        &[b"escp2-profile 1\ntop= 1\n"],
+        (2, &[], b"profile: line 2: BadValue\n"),
+    ),
+    (
+        &[b"escp2-profile 1\nhdpi=360\nvdpi=360\n"],
+        (2, &[], b"profile: line 0: Missing nozzles\n"),
+    ),
+];
 
 #[test]
 fn a_bad_text_is_refused_at_its_line(rt: HostRuntime) -> Result<(), Fail> {
-    const ROWS: [TextRow; 10] = [
-        (
-            &[JUST_ENOUGH_2, b"curve_k=0,16\n"],
-            (2, &[], b"profile: line 8: BadValue\n"),
-        ),
-        (
-            &[JUST_ENOUGH, b"curve_k=0,16\n"],
-            (2, &[], b"profile: line 8: UnknownKey\n"),
-        ),
-        (&[b""], (2, &[], b"profile: line 1: BadHead\n")),
-        (
-            &[b"escp2-profile 3\n"],
-            (2, &[], b"profile: line 1: BadHead\n"),
-        ),
-        (
-            &[b"escp2-profile 1\n#\xFF\nh\xFF=1\n"],
-            (2, &[], b"profile: line 3: NotAscii\n"),
-        ),
-        (
-            &[b"escp2-profile 1\n\nhdpi\n"],
-            (2, &[], b"profile: line 3: NoEquals\n"),
-        ),
-        (
-            &[b"escp2-profile 1\r\ndpi=1\r\n"],
-            (2, &[], b"profile: line 2: UnknownKey\n"),
-        ),
-        (
-            &[b"escp2-profile 1\ntop=1\ntop=x\n"],
-            (2, &[], b"profile: line 3: RepeatedKey\n"),
-        ),
-        (
-            &[b"escp2-profile 1\ntop= 1\n"],
-            (2, &[], b"profile: line 2: BadValue\n"),
-        ),
-        (
-            &[b"escp2-profile 1\nhdpi=360\nvdpi=360\n"],
-            (2, &[], b"profile: line 0: Missing nozzles\n"),
-        ),
-    ];
-    try_texts(&rt, rt.alloc(), &ROWS)
+    try_texts(&rt, rt.alloc(), &BAD_TEXTS)
 }
 
 // The words that take a printer by its text.

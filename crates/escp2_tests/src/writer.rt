@@ -25,76 +25,78 @@ fn puts(
     same_bytes(rt, at, sink.bytes(), held);
 }
 
+const MARGINS: Command = Command::Margins {
+    top: 0x0102,
+    bottom: 0x0304,
+};
+
+const SPELLINGS: [Case; 17] = [
+    (Command::Init, &[], &[0x1B, 0x40]),
+    (
+        Command::Graphics,
+        &[],
+        &[0x1B, 0x28, 0x47, 0x01, 0x00, 0x01],
+    ),
+    (
+        Command::Unit { m: 0x05 },
+        &[],
+        &[0x1B, 0x28, 0x55, 0x01, 0x00, 0x05],
+    ),
+    (
+        Command::MicroWeave { n: 0x00 },
+        &[],
+        &[0x1B, 0x28, 0x69, 0x01, 0x00, 0x00],
+    ),
+    (Command::OneWay { n: 0x01 }, &[], &[0x1B, 0x55, 0x01]),
+    (Command::Eject, &[], &[0x0C]),
+    (Command::Return, &[], &[0x0D]),
+    (
+        Command::Length { n: 0x1234 },
+        &[],
+        &[0x1B, 0x28, 0x43, 0x02, 0x00, 0x34, 0x12],
+    ),
+    (
+        MARGINS,
+        &[],
+        &[0x1B, 0x28, 0x63, 0x04, 0x00, 0x02, 0x01, 0x04, 0x03],
+    ),
+    (
+        Command::DownTo { n: 0x1234 },
+        &[],
+        &[0x1B, 0x28, 0x56, 0x02, 0x00, 0x34, 0x12],
+    ),
+    (
+        Command::DownBy { n: 0x1234 },
+        &[],
+        &[0x1B, 0x28, 0x76, 0x02, 0x00, 0x34, 0x12],
+    ),
+    (
+        Command::Across { n: 0x1234 },
+        &[],
+        &[0x1B, 0x24, 0x34, 0x12],
+    ),
+    (
+        Command::Colour { ink: Ink::Black },
+        &[],
+        &[0x1B, 0x72, 0x00],
+    ),
+    (
+        Command::Colour { ink: Ink::Magenta },
+        &[],
+        &[0x1B, 0x72, 0x01],
+    ),
+    (Command::Colour { ink: Ink::Cyan }, &[], &[0x1B, 0x72, 0x02]),
+    (
+        Command::Colour { ink: Ink::Yellow },
+        &[],
+        &[0x1B, 0x72, 0x04],
+    ),
+    (RASTER, ROWS, RASTER_BYTES),
+];
+
 #[test]
 fn each_command_has_its_bytes(rt: HostRuntime) -> Result<(), Fail> {
-    const MARGINS: Command = Command::Margins {
-        top: 0x0102,
-        bottom: 0x0304,
-    };
-    const CASES: [Case; 17] = [
-        (Command::Init, &[], &[0x1B, 0x40]),
-        (
-            Command::Graphics,
-            &[],
-            &[0x1B, 0x28, 0x47, 0x01, 0x00, 0x01],
-        ),
-        (
-            Command::Unit { m: 0x05 },
-            &[],
-            &[0x1B, 0x28, 0x55, 0x01, 0x00, 0x05],
-        ),
-        (
-            Command::MicroWeave { n: 0x00 },
-            &[],
-            &[0x1B, 0x28, 0x69, 0x01, 0x00, 0x00],
-        ),
-        (Command::OneWay { n: 0x01 }, &[], &[0x1B, 0x55, 0x01]),
-        (Command::Eject, &[], &[0x0C]),
-        (Command::Return, &[], &[0x0D]),
-        (
-            Command::Length { n: 0x1234 },
-            &[],
-            &[0x1B, 0x28, 0x43, 0x02, 0x00, 0x34, 0x12],
-        ),
-        (
-            MARGINS,
-            &[],
-            &[0x1B, 0x28, 0x63, 0x04, 0x00, 0x02, 0x01, 0x04, 0x03],
-        ),
-        (
-            Command::DownTo { n: 0x1234 },
-            &[],
-            &[0x1B, 0x28, 0x56, 0x02, 0x00, 0x34, 0x12],
-        ),
-        (
-            Command::DownBy { n: 0x1234 },
-            &[],
-            &[0x1B, 0x28, 0x76, 0x02, 0x00, 0x34, 0x12],
-        ),
-        (
-            Command::Across { n: 0x1234 },
-            &[],
-            &[0x1B, 0x24, 0x34, 0x12],
-        ),
-        (
-            Command::Colour { ink: Ink::Black },
-            &[],
-            &[0x1B, 0x72, 0x00],
-        ),
-        (
-            Command::Colour { ink: Ink::Magenta },
-            &[],
-            &[0x1B, 0x72, 0x01],
-        ),
-        (Command::Colour { ink: Ink::Cyan }, &[], &[0x1B, 0x72, 0x02]),
-        (
-            Command::Colour { ink: Ink::Yellow },
-            &[],
-            &[0x1B, 0x72, 0x04],
-        ),
-        (RASTER, ROWS, RASTER_BYTES),
-    ];
-    for &(command, rows, bytes) in &CASES {
+    for &(command, rows, bytes) in &SPELLINGS {
         let mut sink = sink(rt.alloc(), 16, 16, 0)?;
         puts(&rt, "a command", &mut sink, &command, rows, Ok(()), bytes);
     }

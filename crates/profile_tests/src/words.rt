@@ -137,103 +137,105 @@ fn each_bad_word_has_its_cause(rt: HostRuntime) -> Result<(), Fail> {
     Ok(())
 }
 
+const REFUSED_WAYS: [(&[&str], u32, UsageCause); 10] = [
+    (
+        &["print", "profile=tiny", "shingle=1", "dead=2"],
+        4,
+        UsageCause::Together,
+    ),
+    (&["print", "dead=2", "shingle=1"], 3, UsageCause::Together),
+    (
+        &["trial", "shingle=1", "seed=2", "dead=0"],
+        4,
+        UsageCause::Together,
+    ),
+    (
+        &["trial", "dead=0", "kind=rgb", "shingle=1", "x"],
+        4,
+        UsageCause::Together,
+    ),
+    (&["print", "shingle=1", "dead=2,1"], 3, UsageCause::BadValue),
+    (&["print", "dead=2", "shingle=2"], 3, UsageCause::BadValue),
+    (
+        &["print", "shingle=1", "shingle=1", "dead=2"],
+        3,
+        UsageCause::RepeatedKey,
+    ),
+    (
+        &["print", "shingle=1", "x", "dead=2"],
+        3,
+        UsageCause::NotKeyValue,
+    ),
+    (
+        &["print", "shingle=0", "dead=2", "shingle=1"],
+        4,
+        UsageCause::RepeatedKey,
+    ),
+    (
+        &["print", "profile=tiny", "dead=2,1"],
+        3,
+        UsageCause::BadValue,
+    ),
+];
+
 #[test]
 fn shingled_passes_and_dead_nozzles_are_refused_at_the_later_word(
     rt: HostRuntime,
 ) -> Result<(), Fail> {
-    const LINES: [(&[&str], u32, UsageCause); 10] = [
-        (
-            &["print", "profile=tiny", "shingle=1", "dead=2"],
-            4,
-            UsageCause::Together,
-        ),
-        (&["print", "dead=2", "shingle=1"], 3, UsageCause::Together),
-        (
-            &["trial", "shingle=1", "seed=2", "dead=0"],
-            4,
-            UsageCause::Together,
-        ),
-        (
-            &["trial", "dead=0", "kind=rgb", "shingle=1", "x"],
-            4,
-            UsageCause::Together,
-        ),
-        (&["print", "shingle=1", "dead=2,1"], 3, UsageCause::BadValue),
-        (&["print", "dead=2", "shingle=2"], 3, UsageCause::BadValue),
-        (
-            &["print", "shingle=1", "shingle=1", "dead=2"],
-            3,
-            UsageCause::RepeatedKey,
-        ),
-        (
-            &["print", "shingle=1", "x", "dead=2"],
-            3,
-            UsageCause::NotKeyValue,
-        ),
-        (
-            &["print", "shingle=0", "dead=2", "shingle=1"],
-            4,
-            UsageCause::RepeatedKey,
-        ),
-        (
-            &["print", "profile=tiny", "dead=2,1"],
-            3,
-            UsageCause::BadValue,
-        ),
-    ];
-    for &(line, word, cause) in &LINES {
+    for &(line, word, cause) in &REFUSED_WAYS {
         same_fault(&rt, rt.alloc(), line, word, Some(cause))?;
     }
     Ok(())
 }
 
+const JOB_LINES: [Line; 9] = [
+    (
+        &["print", "profile=a=b", "kernel=stucki", "workers=64"],
+        Verb::Print,
+        &[
+            Said::Profile(2, "a=b"),
+            Said::Kernel(Kernel::Stucki),
+            Said::Workers(64),
+        ],
+    ),
+    (&["profile"], Verb::Profile, &[]),
+    (&["dots", "most=10"], Verb::Dots, &[Said::Most(10)]),
+    (&["list", "most=10"], Verb::List, &[Said::Most(10)]),
+    (
+        &["print", "cap=18446744073709551615"],
+        Verb::Print,
+        &[Said::Cap(18_446_744_073_709_551_615)],
+    ),
+    (&["print", "shingle=1"], Verb::Print, &[Said::Shingle]),
+    (
+        &["print", "shingle=0", "dead=0,7,254"],
+        Verb::Print,
+        &[Said::Dead(&[0, 7, 254])],
+    ),
+    (&["trial"], Verb::Trial, &[]),
+    (
+        &[
+            "trial",
+            "kind=cmyk",
+            "height=15840",
+            "width=8191",
+            "pages=16",
+            "seed=0",
+            "dead=2",
+            "profile=c",
+        ],
+        Verb::Trial,
+        &[
+            Said::Profile(8, "c"),
+            Said::Dead(&[2]),
+            Said::Made(0, 16, 8191, 15_840, Kind::Cmyk8),
+        ],
+    ),
+];
+
 #[test]
 fn a_line_is_read_as_a_job(rt: HostRuntime) -> Result<(), Fail> {
-    const LINES: [Line; 9] = [
-        (
-            &["print", "profile=a=b", "kernel=stucki", "workers=64"],
-            Verb::Print,
-            &[
-                Said::Profile(2, "a=b"),
-                Said::Kernel(Kernel::Stucki),
-                Said::Workers(64),
-            ],
-        ),
-        (&["profile"], Verb::Profile, &[]),
-        (&["dots", "most=10"], Verb::Dots, &[Said::Most(10)]),
-        (&["list", "most=10"], Verb::List, &[Said::Most(10)]),
-        (
-            &["print", "cap=18446744073709551615"],
-            Verb::Print,
-            &[Said::Cap(18_446_744_073_709_551_615)],
-        ),
-        (&["print", "shingle=1"], Verb::Print, &[Said::Shingle]),
-        (
-            &["print", "shingle=0", "dead=0,7,254"],
-            Verb::Print,
-            &[Said::Dead(&[0, 7, 254])],
-        ),
-        (&["trial"], Verb::Trial, &[]),
-        (
-            &[
-                "trial",
-                "kind=cmyk",
-                "height=15840",
-                "width=8191",
-                "pages=16",
-                "seed=0",
-                "dead=2",
-                "profile=c",
-            ],
-            Verb::Trial,
-            &[
-                Said::Profile(8, "c"),
-                Said::Dead(&[2]),
-                Said::Made(0, 16, 8191, 15_840, Kind::Cmyk8),
-            ],
-        ),
-    ];
-    for &line in &LINES {
+    for &line in &JOB_LINES {
         same_job(&rt, rt.alloc(), line)?;
     }
     Ok(())
@@ -333,43 +335,44 @@ fn a_profile_has_1_to_255_bytes(rt: HostRuntime) -> Result<(), Fail> {
     Ok(())
 }
 
+const TRIAL_VALUES: [(&str, Option<UsageCause>); 33] = [
+    ("seed=0", None),
+    ("seed=4294967295", None),
+    ("pages=1", None),
+    ("pages=16", None),
+    ("width=1", None),
+    ("width=8191", None),
+    ("height=1", None),
+    ("height=15840", None),
+    ("kind=gray", None),
+    ("kind=black", None),
+    ("kind=rgb", None),
+    ("kind=black1", None),
+    ("kind=cmyk", None),
+    ("kernel=jjn", None),
+    ("workers=64", None),
+    ("shingle=1", None),
+    ("dead=254", None),
+    ("seed=4294967296", Some(UsageCause::BadValue)),
+    ("seed=-1", Some(UsageCause::BadValue)),
+    ("seed=", Some(UsageCause::BadValue)),
+    ("pages=0", Some(UsageCause::BadValue)),
+    ("pages=17", Some(UsageCause::BadValue)),
+    ("width=0", Some(UsageCause::BadValue)),
+    ("width=8192", Some(UsageCause::BadValue)),
+    ("height=0", Some(UsageCause::BadValue)),
+    ("height=15841", Some(UsageCause::BadValue)),
+    ("kind=Gray", Some(UsageCause::BadValue)),
+    ("kind=grey", Some(UsageCause::BadValue)),
+    ("kind=", Some(UsageCause::BadValue)),
+    ("workers=65", Some(UsageCause::BadValue)),
+    ("cap=1", Some(UsageCause::UnknownKey)),
+    ("most=1", Some(UsageCause::UnknownKey)),
+    ("page=1", Some(UsageCause::UnknownKey)),
+];
+
 #[test]
 fn each_value_of_a_trial_is_taken_or_refused(rt: HostRuntime) -> Result<(), Fail> {
-    const TRIAL_VALUES: [(&str, Option<UsageCause>); 33] = [
-        ("seed=0", None),
-        ("seed=4294967295", None),
-        ("pages=1", None),
-        ("pages=16", None),
-        ("width=1", None),
-        ("width=8191", None),
-        ("height=1", None),
-        ("height=15840", None),
-        ("kind=gray", None),
-        ("kind=black", None),
-        ("kind=rgb", None),
-        ("kind=black1", None),
-        ("kind=cmyk", None),
-        ("kernel=jjn", None),
-        ("workers=64", None),
-        ("shingle=1", None),
-        ("dead=254", None),
-        ("seed=4294967296", Some(UsageCause::BadValue)),
-        ("seed=-1", Some(UsageCause::BadValue)),
-        ("seed=", Some(UsageCause::BadValue)),
-        ("pages=0", Some(UsageCause::BadValue)),
-        ("pages=17", Some(UsageCause::BadValue)),
-        ("width=0", Some(UsageCause::BadValue)),
-        ("width=8192", Some(UsageCause::BadValue)),
-        ("height=0", Some(UsageCause::BadValue)),
-        ("height=15841", Some(UsageCause::BadValue)),
-        ("kind=Gray", Some(UsageCause::BadValue)),
-        ("kind=grey", Some(UsageCause::BadValue)),
-        ("kind=", Some(UsageCause::BadValue)),
-        ("workers=65", Some(UsageCause::BadValue)),
-        ("cap=1", Some(UsageCause::UnknownKey)),
-        ("most=1", Some(UsageCause::UnknownKey)),
-        ("page=1", Some(UsageCause::UnknownKey)),
-    ];
     for &(word, cause) in &TRIAL_VALUES {
         same_fault(&rt, rt.alloc(), &["trial", word, "profile=c"], 2, cause)?;
     }

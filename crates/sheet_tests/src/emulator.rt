@@ -121,56 +121,57 @@ const TWO_ROWS: RasterHead = head!(20, 10, 2, 8);
 
 const OTHER: RasterHead = head!(20, 11, 2, 8);
 
+const MISSING: [Case; 17] = [
+    (FIRE, BLANK, Some(EmulatorFault::NotGraphics)),
+    (Command::Graphics, &[], None),
+    (FIRE, BLANK, Some(EmulatorFault::NoUnit)),
+    (Command::Length { n: 1 }, &[], Some(EmulatorFault::NoUnit)),
+    (
+        Command::Margins { top: 0, bottom: 1 },
+        &[],
+        Some(EmulatorFault::NoUnit),
+    ),
+    (Command::DownTo { n: 0 }, &[], Some(EmulatorFault::NoUnit)),
+    (Command::DownBy { n: 0 }, &[], Some(EmulatorFault::NoUnit)),
+    (Command::Across { n: 0 }, &[], Some(EmulatorFault::NoUnit)),
+    (Command::Eject, &[], Some(EmulatorFault::NoMargins)),
+    (Command::Unit { m: 5 }, &[], None),
+    (
+        Command::Length { n: 32_767 },
+        &[],
+        Some(EmulatorFault::OffSheet),
+    ),
+    (
+        Command::Margins { top: 0, bottom: 1 },
+        &[],
+        Some(EmulatorFault::NoMargins),
+    ),
+    (Command::Length { n: 12 }, &[], None),
+    (
+        Command::Margins { top: 0, bottom: 13 },
+        &[],
+        Some(EmulatorFault::OffSheet),
+    ),
+    (
+        Command::DownTo { n: 99 },
+        &[],
+        Some(EmulatorFault::NoMargins),
+    ),
+    (
+        Command::DownBy { n: 99 },
+        &[],
+        Some(EmulatorFault::NoMargins),
+    ),
+    (
+        Command::Raster { head: OTHER },
+        &[0, 0],
+        Some(EmulatorFault::NoMargins),
+    ),
+];
+
 #[test]
 fn what_is_missing_is_refused_first(rt: HostRuntime) {
-    const CASES: [Case; 17] = [
-        (FIRE, BLANK, Some(EmulatorFault::NotGraphics)),
-        (Command::Graphics, &[], None),
-        (FIRE, BLANK, Some(EmulatorFault::NoUnit)),
-        (Command::Length { n: 1 }, &[], Some(EmulatorFault::NoUnit)),
-        (
-            Command::Margins { top: 0, bottom: 1 },
-            &[],
-            Some(EmulatorFault::NoUnit),
-        ),
-        (Command::DownTo { n: 0 }, &[], Some(EmulatorFault::NoUnit)),
-        (Command::DownBy { n: 0 }, &[], Some(EmulatorFault::NoUnit)),
-        (Command::Across { n: 0 }, &[], Some(EmulatorFault::NoUnit)),
-        (Command::Eject, &[], Some(EmulatorFault::NoMargins)),
-        (Command::Unit { m: 5 }, &[], None),
-        (
-            Command::Length { n: 32_767 },
-            &[],
-            Some(EmulatorFault::OffSheet),
-        ),
-        (
-            Command::Margins { top: 0, bottom: 1 },
-            &[],
-            Some(EmulatorFault::NoMargins),
-        ),
-        (Command::Length { n: 12 }, &[], None),
-        (
-            Command::Margins { top: 0, bottom: 13 },
-            &[],
-            Some(EmulatorFault::OffSheet),
-        ),
-        (
-            Command::DownTo { n: 99 },
-            &[],
-            Some(EmulatorFault::NoMargins),
-        ),
-        (
-            Command::DownBy { n: 99 },
-            &[],
-            Some(EmulatorFault::NoMargins),
-        ),
-        (
-            Command::Raster { head: OTHER },
-            &[0, 0],
-            Some(EmulatorFault::NoMargins),
-        ),
-    ];
-    each(&rt, &mut at_start(&rt, rt.alloc()), &CASES);
+    each(&rt, &mut at_start(&rt, rt.alloc()), &MISSING);
 }
 
 #[test]

@@ -44,45 +44,47 @@ fn another_profile_is_density(rt: HostRuntime) -> Result<(), Fail> {
     try_jobs(&rt, rt.alloc(), &ROWS)
 }
 
+const CUT: [Part; 2] = [KNOWN, Part::Known(0, 60)];
+
+const STOPPED: [JobRow; 5] = [
+    (
+        &DOTS,
+        &CUT,
+        (33, 0),
+        ROOMY,
+        (8, &[TINY_IMAGES], b"job: offset 142: Cut\n"),
+    ),
+    (
+        &DOTS,
+        &CUT,
+        (50, 3),
+        ROOMY,
+        (4, &[TINY_IMAGES], b"read failed\n"),
+    ),
+    (
+        &["dots", "profile=tiny", "most=91"],
+        &[KNOWN],
+        (50, 0),
+        ROOMY,
+        (8, &[TINY_IMAGES], b"job: offset 91: TooLong\n"),
+    ),
+    // a full sink
+    (
+        &DOTS,
+        &[KNOWN, KNOWN],
+        (92, 0),
+        60,
+        (
+            5,
+            &[TINY_IMAGES, b"P4\n8 6\n\x00"],
+            b"write failed: page 2\n",
+        ),
+    ),
+    // a job without a sheet
+    (&DOTS, &[Part::Known(0, 50)], (92, 0), 64, (0, &[], b"")),
+];
+
 #[test]
 fn sheets_before_a_stop_are_written(rt: HostRuntime) -> Result<(), Fail> {
-    const CUT: [Part; 2] = [KNOWN, Part::Known(0, 60)];
-    const ROWS: [JobRow; 5] = [
-        (
-            &DOTS,
-            &CUT,
-            (33, 0),
-            ROOMY,
-            (8, &[TINY_IMAGES], b"job: offset 142: Cut\n"),
-        ),
-        (
-            &DOTS,
-            &CUT,
-            (50, 3),
-            ROOMY,
-            (4, &[TINY_IMAGES], b"read failed\n"),
-        ),
-        (
-            &["dots", "profile=tiny", "most=91"],
-            &[KNOWN],
-            (50, 0),
-            ROOMY,
-            (8, &[TINY_IMAGES], b"job: offset 91: TooLong\n"),
-        ),
-        // a full sink
-        (
-            &DOTS,
-            &[KNOWN, KNOWN],
-            (92, 0),
-            60,
-            (
-                5,
-                &[TINY_IMAGES, b"P4\n8 6\n\x00"],
-                b"write failed: page 2\n",
-            ),
-        ),
-        // a job without a sheet
-        (&DOTS, &[Part::Known(0, 50)], (92, 0), 64, (0, &[], b"")),
-    ];
-    try_jobs(&rt, rt.alloc(), &ROWS)
+    try_jobs(&rt, rt.alloc(), &STOPPED)
 }

@@ -26,54 +26,56 @@ fn list_gives_seventeen_lines(rt: HostRuntime) -> Result<(), Fail> {
     try_jobs(&rt, rt.alloc(), &ROWS)
 }
 
+const SHORT: [&str; 2] = ["list", "most=99"];
+
+const READER_FAULTS: [JobRow; 6] = [
+    (
+        &SHORT,
+        &[Part::Known(0, 10)],
+        (3, 0),
+        ROOMY,
+        (8, &[FIRST_LINES], b"job: offset 8: Cut\n"),
+    ),
+    (
+        &["list", "most=10"],
+        &[Part::Known(0, 11)],
+        (3, 0),
+        ROOMY,
+        (8, &[FIRST_LINES], b"job: offset 10: TooLong\n"),
+    ),
+    (
+        &SHORT,
+        &[Part::Bytes(&[0x1B, 0x41])],
+        (3, 0),
+        ROOMY,
+        (8, &[], b"job: offset 1: Unknown\n"),
+    ),
+    (
+        &SHORT,
+        &[Part::Bytes(&[0x1B, 0x28, 0x47, 2, 0])],
+        (3, 0),
+        ROOMY,
+        (8, &[], b"job: offset 3: BadLength\n"),
+    ),
+    (
+        &SHORT,
+        &[Part::Bytes(&[0x1B, 0x72, 3])],
+        (3, 0),
+        ROOMY,
+        (8, &[], b"job: offset 2: BadValue\n"),
+    ),
+    (
+        &SHORT,
+        &[Part::Bytes(&[0x1B, 0x2E, 1, 0x14, 0x0A, 3, 8, 0, 0x80])],
+        (3, 0),
+        ROOMY,
+        (8, &[], b"job: offset 8: RunCode\n"),
+    ),
+];
+
 #[test]
 fn list_names_each_reader_fault(rt: HostRuntime) -> Result<(), Fail> {
-    const SHORT: [&str; 2] = ["list", "most=99"];
-    const ROWS: [JobRow; 6] = [
-        (
-            &SHORT,
-            &[Part::Known(0, 10)],
-            (3, 0),
-            ROOMY,
-            (8, &[FIRST_LINES], b"job: offset 8: Cut\n"),
-        ),
-        (
-            &["list", "most=10"],
-            &[Part::Known(0, 11)],
-            (3, 0),
-            ROOMY,
-            (8, &[FIRST_LINES], b"job: offset 10: TooLong\n"),
-        ),
-        (
-            &SHORT,
-            &[Part::Bytes(&[0x1B, 0x41])],
-            (3, 0),
-            ROOMY,
-            (8, &[], b"job: offset 1: Unknown\n"),
-        ),
-        (
-            &SHORT,
-            &[Part::Bytes(&[0x1B, 0x28, 0x47, 2, 0])],
-            (3, 0),
-            ROOMY,
-            (8, &[], b"job: offset 3: BadLength\n"),
-        ),
-        (
-            &SHORT,
-            &[Part::Bytes(&[0x1B, 0x72, 3])],
-            (3, 0),
-            ROOMY,
-            (8, &[], b"job: offset 2: BadValue\n"),
-        ),
-        (
-            &SHORT,
-            &[Part::Bytes(&[0x1B, 0x2E, 1, 0x14, 0x0A, 3, 8, 0, 0x80])],
-            (3, 0),
-            ROOMY,
-            (8, &[], b"job: offset 8: RunCode\n"),
-        ),
-    ];
-    try_jobs(&rt, rt.alloc(), &ROWS)
+    try_jobs(&rt, rt.alloc(), &READER_FAULTS)
 }
 
 #[test]

@@ -122,77 +122,78 @@ fn black_start_takes_grey_into_black(rt: HostRuntime) {
     each(&rt, rt.alloc(), &CELLS);
 }
 
+const RED_OR_LIMITED: [Cell; 12] = [
+    (Kind::Rgb8, [255, 0, 0, 0], InkSet::K, PLAIN, [179, 0, 0, 0]),
+    (Kind::Rgb8, [0, 255, 0, 0], InkSet::K, PLAIN, [106, 0, 0, 0]),
+    (Kind::Rgb8, [0, 0, 255, 0], InkSet::K, PLAIN, [227, 0, 0, 0]),
+    (
+        Kind::Gray8,
+        [154, 0, 0, 0],
+        InkSet::K,
+        (0, [224, 255, 255, 255], Curves::Straight),
+        [88, 0, 0, 0],
+    ),
+    (
+        Kind::Black8,
+        [101, 0, 0, 0],
+        InkSet::K,
+        (0, [224, 255, 255, 255], Curves::Straight),
+        [88, 0, 0, 0],
+    ),
+    (
+        Kind::Gray8,
+        [154, 0, 0, 0],
+        InkSet::Cmy,
+        (0, [1, 255, 224, 128], Curves::Straight),
+        [101, 88, 50, 0],
+    ),
+    (
+        Kind::Black8,
+        [101, 0, 0, 0],
+        InkSet::Cmy,
+        (0, [1, 255, 224, 128], Curves::Straight),
+        [101, 88, 50, 0],
+    ),
+    (
+        Kind::Rgb8,
+        [10, 154, 55, 0],
+        InkSet::Cmy,
+        (0, [1, 255, 224, 128], Curves::Straight),
+        [245, 88, 100, 0],
+    ),
+    (
+        Kind::Gray8,
+        [55, 0, 0, 0],
+        InkSet::Cmyk,
+        (0, [128, 255, 255, 255], Curves::Straight),
+        [100, 0, 0, 0],
+    ),
+    (
+        Kind::Black8,
+        [200, 0, 0, 0],
+        InkSet::Cmyk,
+        (0, [128, 255, 255, 255], Curves::Straight),
+        [100, 0, 0, 0],
+    ),
+    (
+        Kind::Rgb8,
+        [192, 100, 0, 0],
+        InkSet::Cmyk,
+        (64, FREE, Curves::Straight),
+        [0, 63, 155, 255],
+    ),
+    (
+        Kind::Rgb8,
+        [55, 0, 155, 0],
+        InkSet::Cmyk,
+        (64, [255, 224, 200, 180], Curves::Straight),
+        [48, 133, 162, 36],
+    ),
+];
+
 #[test]
 fn red_as_grey_and_an_amount_under_a_limit(rt: HostRuntime) {
-    const CELLS: [Cell; 12] = [
-        (Kind::Rgb8, [255, 0, 0, 0], InkSet::K, PLAIN, [179, 0, 0, 0]),
-        (Kind::Rgb8, [0, 255, 0, 0], InkSet::K, PLAIN, [106, 0, 0, 0]),
-        (Kind::Rgb8, [0, 0, 255, 0], InkSet::K, PLAIN, [227, 0, 0, 0]),
-        (
-            Kind::Gray8,
-            [154, 0, 0, 0],
-            InkSet::K,
-            (0, [224, 255, 255, 255], Curves::Straight),
-            [88, 0, 0, 0],
-        ),
-        (
-            Kind::Black8,
-            [101, 0, 0, 0],
-            InkSet::K,
-            (0, [224, 255, 255, 255], Curves::Straight),
-            [88, 0, 0, 0],
-        ),
-        (
-            Kind::Gray8,
-            [154, 0, 0, 0],
-            InkSet::Cmy,
-            (0, [1, 255, 224, 128], Curves::Straight),
-            [101, 88, 50, 0],
-        ),
-        (
-            Kind::Black8,
-            [101, 0, 0, 0],
-            InkSet::Cmy,
-            (0, [1, 255, 224, 128], Curves::Straight),
-            [101, 88, 50, 0],
-        ),
-        (
-            Kind::Rgb8,
-            [10, 154, 55, 0],
-            InkSet::Cmy,
-            (0, [1, 255, 224, 128], Curves::Straight),
-            [245, 88, 100, 0],
-        ),
-        (
-            Kind::Gray8,
-            [55, 0, 0, 0],
-            InkSet::Cmyk,
-            (0, [128, 255, 255, 255], Curves::Straight),
-            [100, 0, 0, 0],
-        ),
-        (
-            Kind::Black8,
-            [200, 0, 0, 0],
-            InkSet::Cmyk,
-            (0, [128, 255, 255, 255], Curves::Straight),
-            [100, 0, 0, 0],
-        ),
-        (
-            Kind::Rgb8,
-            [192, 100, 0, 0],
-            InkSet::Cmyk,
-            (64, FREE, Curves::Straight),
-            [0, 63, 155, 255],
-        ),
-        (
-            Kind::Rgb8,
-            [55, 0, 155, 0],
-            InkSet::Cmyk,
-            (64, [255, 224, 200, 180], Curves::Straight),
-            [48, 133, 162, 36],
-        ),
-    ];
-    each(&rt, rt.alloc(), &CELLS);
+    each(&rt, rt.alloc(), &RED_OR_LIMITED);
 }
 
 #[test]

@@ -265,92 +265,95 @@ const ONE_SENDER: Case = Case {
     ..THREE_JOBS
 };
 
+const FAILED_SHELF: Case = Case {
+    status: 4,
+    line: "read failed\n",
+    ..NONE
+};
+
+const FAILED_SHELVES: [(&str, Case); 4] = [
+    (
+        "read 1",
+        Case {
+            failing_reads: &[1],
+            ..FAILED_SHELF
+        },
+    ),
+    (
+        "read 2",
+        Case {
+            failing_reads: &[2],
+            ..FAILED_SHELF
+        },
+    ),
+    (
+        "read 3",
+        Case {
+            failing_reads: &[3],
+            ..FAILED_SHELF
+        },
+    ),
+    (
+        "the profile",
+        Case {
+            words: &["profile=own", "send=a"],
+            failing_reads: &[1],
+            ..FAILED_SHELF
+        },
+    ),
+];
+
 #[test]
 fn a_shelf_that_fails_ends_the_run(rt: HostRuntime) -> Result<(), Fail> {
-    const FAILED: Case = Case {
-        status: 4,
-        line: "read failed\n",
-        ..NONE
-    };
-    const CASES: [(&str, Case); 4] = [
-        (
-            "read 1",
-            Case {
-                failing_reads: &[1],
-                ..FAILED
-            },
-        ),
-        (
-            "read 2",
-            Case {
-                failing_reads: &[2],
-                ..FAILED
-            },
-        ),
-        (
-            "read 3",
-            Case {
-                failing_reads: &[3],
-                ..FAILED
-            },
-        ),
-        (
-            "the profile",
-            Case {
-                words: &["profile=own", "send=a"],
-                failing_reads: &[1],
-                ..FAILED
-            },
-        ),
-    ];
-    for (at, case) in &CASES {
+    for (at, case) in &FAILED_SHELVES {
         try_case(&rt, rt.alloc(), at, case)?;
     }
     Ok(())
 }
 
+const FAILED_WRITES: [(&str, Case); 3] = [
+    (
+        "job 1",
+        Case {
+            failing_writes: &[1],
+            status: 5,
+            senders: &[&[(1, 5, 0)]],
+            pages: 0,
+            black: 16,
+            line: "write failed: sender 1 job 1 page 1\n",
+            ..ONE_SENDER
+        },
+    ),
+    (
+        "job 2",
+        Case {
+            failing_writes: &[93],
+            status: 5,
+            senders: &[&[(1, 0, 1), (2, 5, 0)]],
+            pages: 1,
+            black: 32,
+            line: "write failed: sender 1 job 2 page 1\n",
+            ..ONE_SENDER
+        },
+    ),
+    (
+        "job 3, page 2",
+        Case {
+            files: &[("a", 1), ("b", 1), ("c", 3)],
+            failing_writes: &[277],
+            status: 5,
+            senders: &[&[(1, 0, 1), (2, 0, 1), (3, 5, 1)]],
+            pages: 3,
+            black: 64,
+            line: "write failed: sender 1 job 3 page 2\n",
+            ..ONE_SENDER
+        },
+    ),
+];
+
 #[test]
 fn a_failed_write_ends_the_run_in_its_job(rt: HostRuntime) -> Result<(), Fail> {
-    const CASES: [(&str, Case); 3] = [
-        (
-            "job 1",
-            Case {
-                failing_writes: &[1],
-                status: 5,
-                senders: &[&[(1, 5, 0)]],
-                pages: 0,
-                black: 16,
-                line: "write failed: sender 1 job 1 page 1\n",
-                ..ONE_SENDER
-            },
-        ),
-        (
-            "job 2",
-            Case {
-                failing_writes: &[93],
-                status: 5,
-                senders: &[&[(1, 0, 1), (2, 5, 0)]],
-                pages: 1,
-                black: 32,
-                line: "write failed: sender 1 job 2 page 1\n",
-                ..ONE_SENDER
-            },
-        ),
-        (
-            "job 3, page 2",
-            Case {
-                files: &[("a", 1), ("b", 1), ("c", 3)],
-                failing_writes: &[277],
-                status: 5,
-                senders: &[&[(1, 0, 1), (2, 0, 1), (3, 5, 1)]],
-                pages: 3,
-                black: 64,
-                line: "write failed: sender 1 job 3 page 2\n",
-                ..ONE_SENDER
-            },
-        ),
-    ];
-    for (at, case) in &CASES {
+    for (at, case) in &FAILED_WRITES {
         try_case(&rt, rt.alloc(), at, case)?;
     }
     Ok(())

@@ -71,61 +71,62 @@ fn same_names(
     Ok(request)
 }
 
+const REQUESTS: [(&[&str], SpoolRequest, &str, &str); 4] = [
+    (
+        &["send=a"],
+        SpoolRequest {
+            profile_word: 0,
+            kernel: Kernel::Floyd,
+            workers: 1,
+            senders: 1,
+        },
+        "p360cmyk",
+        "a ;",
+    ),
+    (
+        &["profile=tiny", "send=a,b", "send=c"],
+        SpoolRequest {
+            profile_word: 1,
+            kernel: Kernel::Floyd,
+            workers: 1,
+            senders: 2,
+        },
+        "tiny",
+        "a b ;c ;",
+    ),
+    (
+        &[
+            "send=x=y,x=y",
+            "kernel=stucki",
+            "send=x=y",
+            "workers=64",
+            "profile=a=b",
+        ],
+        SpoolRequest {
+            profile_word: 5,
+            kernel: Kernel::Stucki,
+            workers: 64,
+            senders: 2,
+        },
+        "a=b",
+        "x=y x=y ;x=y ;",
+    ),
+    (
+        &["workers=7", "send=../c,.,\u{e9}", "kernel=jjn"],
+        SpoolRequest {
+            profile_word: 0,
+            kernel: Kernel::Jarvis,
+            workers: 7,
+            senders: 1,
+        },
+        "p360cmyk",
+        "../c . \u{e9} ;",
+    ),
+];
+
 #[test]
 fn requests_are_read_with_their_names(rt: HostRuntime) -> Result<(), Fail> {
-    const LINES: [(&[&str], SpoolRequest, &str, &str); 4] = [
-        (
-            &["send=a"],
-            SpoolRequest {
-                profile_word: 0,
-                kernel: Kernel::Floyd,
-                workers: 1,
-                senders: 1,
-            },
-            "p360cmyk",
-            "a ;",
-        ),
-        (
-            &["profile=tiny", "send=a,b", "send=c"],
-            SpoolRequest {
-                profile_word: 1,
-                kernel: Kernel::Floyd,
-                workers: 1,
-                senders: 2,
-            },
-            "tiny",
-            "a b ;c ;",
-        ),
-        (
-            &[
-                "send=x=y,x=y",
-                "kernel=stucki",
-                "send=x=y",
-                "workers=64",
-                "profile=a=b",
-            ],
-            SpoolRequest {
-                profile_word: 5,
-                kernel: Kernel::Stucki,
-                workers: 64,
-                senders: 2,
-            },
-            "a=b",
-            "x=y x=y ;x=y ;",
-        ),
-        (
-            &["workers=7", "send=../c,.,\u{e9}", "kernel=jjn"],
-            SpoolRequest {
-                profile_word: 0,
-                kernel: Kernel::Jarvis,
-                workers: 7,
-                senders: 1,
-            },
-            "p360cmyk",
-            "../c . \u{e9} ;",
-        ),
-    ];
-    for &(line, wanted, profile, names) in &LINES {
+    for &(line, wanted, profile, names) in &REQUESTS {
         let words = words_of(rt.alloc(), line)?;
         let request = same_names(&rt, rt.alloc(), &words, profile, names)?;
         same(&rt, names, &request, &wanted);
