@@ -1,11 +1,9 @@
 //! Pages of windows under a head, and what writing them gives.
 ghost use Rattle.base_definitions.specs.Limits.{most_columns, most_rows};
 ghost use Rattle.dead_nozzles.specs.Dead.{IsRising};
-ghost use Rattle.pwg_definitions.specs.Header.{IsWanted};
-ghost use Rattle.separation_definitions.specs.Windows.{wanted_by};
-ghost use Rattle.std.specs.Prelude.{IfOk, IsTrue, ◌≡◌, ◌≤◌};
+ghost use Rattle.std.specs.Prelude.{IfOk, ◌≡◌, ◌≤◌};
 
-use crate::checks::same;
+use crate::checks::{is_taken, same};
 use base_definitions::Memory;
 use dead_nozzles::check_dead;
 use page_writer::{PageForm, PageSum, Planes, WriteStop, write_healed, write_page, write_shingled};
@@ -82,19 +80,6 @@ fn form_of(p: &Profile, (width, rows): (u32, u32)) -> PageForm {
         kind: Kind::Gray8,
         bytes_per_line: width,
     }
-}
-
-// Whether the printer takes a grey page.
-fn is_taken(p: &Profile, f: PageForm) -> bool
-    ensures { IsTrue result → IsWanted (wanted_by p.now) f }
-{
-    let wanted = p.wanted();
-    wanted.least_width <= f.width
-        && f.width <= wanted.most_width
-        && wanted.least_height <= f.height
-        && f.height <= wanted.most_height
-        && f.kind == Kind::Gray8
-        && f.bytes_per_line == f.width
 }
 
 /// Writes a page by so many workers to a sink whose write of this number fails. The dead nozzles are those of a way

@@ -1,8 +1,7 @@
 //! Small pages against the definitions, dot by dot.
-ghost use Rattle.pwg_definitions.specs.Header.{IsWanted};
-ghost use Rattle.separation_definitions.specs.Windows.{wanted_by};
-ghost use Rattle.std.specs.Prelude.{IsTrue, ◌≤◌};
+ghost use Rattle.std.specs.Prelude.{◌≤◌};
 
+use crate::checks::is_taken;
 use crate::halftones::definition::{CURVES, LIMITS, byte_at, wrong_dots};
 use diffusion_kernel::Kernel;
 use dot_planes::Planes;
@@ -13,18 +12,6 @@ use std::alloc::Global;
 use std::process::Abort;
 use std::thread::Threads;
 use wavefront_team::{OpenGate, Team};
-
-// Whether the printer takes a page.
-fn is_taken(p: &Profile, f: PageForm) -> bool
-    ensures { IsTrue result → IsWanted (wanted_by p.now) f }
-{
-    let wanted = p.wanted();
-    wanted.least_width <= f.width
-        && f.width <= wanted.most_width
-        && wanted.least_height <= f.height
-        && f.height <= wanted.most_height
-        && f.bytes_per_line as usize == f.kind.line_bytes(f.width as usize)
-}
 
 // A printer with these inks, and with limits, curves and margins.
 fn printer(inks: InkSet) -> Profile {
