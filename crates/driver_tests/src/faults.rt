@@ -5,12 +5,12 @@
 
 mod answers;
 mod changed;
+mod first_refusals;
+mod fixture;
 mod inputs;
-mod machine;
 mod passes;
 mod plain_head;
 mod plain_stream;
 mod prefixes;
 mod reads;
-mod runs;
 mod writes;

@@ -11,7 +11,7 @@ use tile_shape::{Place, Shape};
 // Sets every dot of a row, by the packed bytes of a full one.
 fn fill_row(rt: &impl Abort, planes: &mut Planes, ink: u8, y: u32, full: &[u8]) {
     let width = planes.width();
-    assert!(rt; width <= 3000 && full.len() == (width as usize + 7) / 8);
+    assert!(rt; full.len() == (width as usize + 7) / 8);
     assert!(rt; ink < planes.inks() && y < planes.rows());
     planes.lay(ink, y, 0, full, width);
 }

@@ -1,6 +1,6 @@
 //! Every byte of a small stream and of a small job, changed to eight others.
+use crate::faults::fixture::{BY_BYTES, Calls, DriverCommand, leaves};
 use crate::faults::inputs::Input;
-use crate::faults::runs::{BY_BYTES, Calls, DriverCommand, leaves};
 use std::alloc::Global;
 use std::process::Abort;
 use std::test::Fail;

@@ -1,7 +1,7 @@
 //! A black page that is printed in two passes: every prefix of it and of its job, every failing read and every failing
 //! write.
 use crate::faults::answers::Answer;
-use crate::faults::runs::{BY_BYTES, Calls, call_behind, words_leave};
+use crate::faults::fixture::{BY_BYTES, Calls, call_behind, words_leave};
 use driver_fixtures::{black_pages, prefix};
 use known_jobs::{TINY_IMAGES, TINY_JOB};
 use std::alloc::{AllocError, Global};

@@ -1,6 +1,6 @@
 //! Every prefix of a stream and of a job.
+use crate::faults::fixture::{BY_BYTES, Calls, DriverCommand, leaves};
 use crate::faults::inputs::Input;
-use crate::faults::runs::{BY_BYTES, Calls, DriverCommand, leaves};
 use driver_fixtures::prefix;
 use std::alloc::Global;
 use std::process::Abort;

@@ -1,6 +1,6 @@
 //! Every failing read, and failing reads and writes together.
+use crate::faults::fixture::{BY_BYTES, Calls, DriverCommand, call_behind, leaves};
 use crate::faults::inputs::Input;
-use crate::faults::runs::{BY_BYTES, Calls, DriverCommand, call_behind, leaves};
 use driver_fixtures::prefix;
 use std::alloc::Global;
 use std::process::Abort;

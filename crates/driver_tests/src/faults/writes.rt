@@ -1,7 +1,7 @@
 //! Every failing write.
 use crate::faults::answers::Answer;
+use crate::faults::fixture::{BY_BYTES, Calls, DriverCommand, call_behind, leaves, words_leave};
 use crate::faults::inputs::Input;
-use crate::faults::runs::{BY_BYTES, Calls, DriverCommand, call_behind, leaves, words_leave};
 use known_jobs::TINY_TEXT;
 use std::alloc::Global;
 use std::process::Abort;

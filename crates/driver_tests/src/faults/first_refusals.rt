@@ -1,6 +1,6 @@
 //! Jobs that break two rules of the machine at once: the first of a command's refusals counts.
 use crate::faults::answers::Answer;
-use crate::faults::runs::{BY_BYTES, DriverCommand, leaves, words_leave};
+use crate::faults::fixture::{BY_BYTES, DriverCommand, leaves, words_leave};
 use driver_fixtures::joined;
 use std::alloc::Global;
 use std::process::Abort;
