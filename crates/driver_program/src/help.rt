@@ -51,7 +51,7 @@ exit status and line on standard error:
 7  out of memory                     memory ran out
 8  job: offset N: CAUSE              the job is no list of commands, or the printer refuses one
 
-What each CAUSE means, and what helps, stands in the manual pages (man jinthbao) and in docs/USING.md.
+What each CAUSE means stands in the manual pages (man jinthbao) and in docs/USING.md, which says what helps.
 ";
 
 const VERSION: &str = "jinthbao 1.0.0\n";

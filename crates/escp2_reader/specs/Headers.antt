@@ -39,18 +39,18 @@ abbrev pub HasLength : (List ℕ → Heard) → ℕ → ℕ → Type 0
 HasLength read letter wanted = (rest : List ℕ)
     → read (0x28 ∷ letter ∷ rest) ≡ sized wanted (λ bytes. read (0x28 ∷ letter ∷ wanted ∷ 0 ∷ bytes)) rest
 
--- the bytes after a length of `wanted`, or what ends each command of that length
+-- a length of `wanted` and the bytes after it; or else what the reading of every command of that length ends with
 abbrev pub IsLength : Result (Bor (List ℕ)) HeaderState → ℕ → List ℕ → Type 0
 IsLength (Ok rest) wanted bytes = bytes ≡ wanted ∷ 0 ∷ rest.now
 IsLength (Err end) wanted bytes = (read : List ℕ → Heard) (letter : ℕ) → HasLength read letter wanted → IsRead end 1 read (0x28 ∷ letter ∷ bytes)
 
--- the byte after a length of 1, or what ends each command that has such a byte
+-- a length of 1 and a byte; or else what the reading of every command of one byte ends with
 abbrev pub IsByte : Result ℕ HeaderState → List ℕ → Type 0
 IsByte (Ok n) bytes = bytes ≡ 1 ∷ 0 ∷ n ∷ drop 3 bytes
 IsByte (Err end) bytes = (read : List ℕ → Heard) (letter : ℕ) → HasLength read letter 1 → read (0x28 ∷ letter ∷ 1 ∷ 0 ∷ []) ≡ Part
     → IsRead end 1 read (0x28 ∷ letter ∷ bytes)
 
--- the number after a length of 2, or what ends each command that has such a number
+-- a length of 2 and a number; or else what the reading of every command of one number ends with
 abbrev pub IsNumber : Result ℕ HeaderState → List ℕ → Type 0
 IsNumber (Ok n) bytes = bytes ≡ 2 ∷ 0 ∷ (two_bytes n ++ drop 4 bytes)
 IsNumber (Err end) bytes = (read : List ℕ → Heard) (letter : ℕ) → HasLength read letter 2 → read (0x28 ∷ letter ∷ 2 ∷ 0 ∷ []) ≡ Part

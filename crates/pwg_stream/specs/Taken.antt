@@ -1,5 +1,5 @@
 -- What was taken of a source where a read failed: all that is whole in it was given, and it has no fault but one that
--- more bytes could mend.
+-- more bytes could mend, or is fewer than the four bytes of the sync word.
 use Rattle.std.specs.Prelude.{◌≡◌, ℕ, ◌+◌, ◌-◌, ◌<◌, ◌⊎◌, List, [], length, Option, Some}
 use Rattle.std.specs.Io.KnownBytes.{Consumes}
 use Rattle.pwg_definitions.specs.declared.faults.InputCause.TheVariants as cause

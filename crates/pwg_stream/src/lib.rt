@@ -14,8 +14,9 @@
 //!   the group, and `lines_left` says how many are left.
 //! - For each of the three: bytes that are used are a prefix of the text, and nothing is lost where the call stops
 //!   (`used`). `Read` comes first only where the source's count of faults rose, which never falls (`read`, `later`),
-//!   and where what was taken does not hold the whole of what the call was to give, and no fault but one that more
-//!   bytes could mend (`taken`, `short`): so a fault that was read is answered before a later failed read.
+//!   and where what was taken does not hold the whole of what the call was to give (`short`; `taken` of `next_line`),
+//!   and has no fault but one that more bytes could mend, or is fewer than the four bytes of the sync word (`taken`).
+//!   So a fault that was read is answered before a later failed read.
 //! - A stop is answered again by each later call, with nothing read and nothing changed (`stop`, `again`), and so is
 //!   the end (`end`, `end_again`).
 //!

@@ -22,8 +22,8 @@ workers=NUMBER  1 to 64 (default 1): so many threads halftone a page and code it
 Standard error gets a line for each job that ran, in order:
 
 job SENDER.NUMBER: status N, pages N
-                                     the status of its print: 0 done, 3 its file is refused, 5 a write failed, 6 a page
-                                     would go past a cap, 7 out of memory; and how many pages were written whole
+                                     the status of its print: 0 done, 3 its file is refused, 5 a write failed, 7 out of
+                                     memory; and how many pages were written whole
 
 exit status and last line on standard error:
 0  none                              every job was printed
@@ -34,7 +34,7 @@ exit status and last line on standard error:
 5  write failed: sender N job N page N
                                      a write failed; later jobs were not printed
 7  out of memory                     memory ran out, before all jobs or in one of them
-9  jobs failed: N                    all jobs ran, and so many ended in status 3 or 6
+9  jobs failed: N                    all jobs ran, and so many ended in status 3
 
 What each CAUSE means stands in the manual pages (man jinthbao-spool) and in docs/USING.md.
 ";

@@ -1,7 +1,7 @@
 //! The spool as a program: words from the command line, files and profiles from the current folder, the jobs to
 //! standard output, the report to standard error, and the status as the exit code.
 //!
-//! It has no contract, since `main` may promise nothing about the outside. Its stored run tests it.
+//! It has no contract, since `main` may promise nothing about the outside. Its stored run prints a file three times.
 #![tactic(auto)]
 
 mod help;

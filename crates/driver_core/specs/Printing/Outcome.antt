@@ -50,7 +50,7 @@ pub record PrintsSome (way : Way) (p : Printer) (k : Table) (input out : Outside
   pub passes : KeepTo way p k pages
 
 -- The job of all whole pages of what was read was written, prints them, and keeps to the way of the head. What was read
--- has no fault but one that more bytes could mend.
+-- has no fault but one that more bytes could mend, or is fewer than four bytes.
 pub record PrintsTaken (way : Way) (p : Printer) (k : Table) (input out : Outside) : Type 0 where
   pub pages : List Page
   pub taken : TakesAllPages (wanted_by p) input.before input.now pages

@@ -44,7 +44,7 @@ pub record PrintPromises (words : List (List ℕ)) (o : Outsides) (err : Outside
       → Admitted p (table_of job.kernel) pages (metered job o.meters).before
       → NothingFailed o → (status ≡ 3) ⊎ (status ≡ 7)
   -- On 4 all whole pages of what was read were written and counted, and nothing else; what was read has no fault but
-  -- one that more bytes could mend.
+  -- one that more bytes could mend, or is fewer than four bytes.
   pub stopped : (job : Job) (p : Printer) → AsksFor words o.shelf.told verb.Print job (Ok p) → status ≡ 4
       → (all : PrintsTaken (way_of job) p (table_of job.kernel) o.input o.out)
       × CountsPages p (table_of job.kernel) (metered job o.meters) all.pages
