@@ -1,4 +1,5 @@
 pub mod Black
+pub mod Examples
 pub mod Given
 pub mod Scaling
 pub mod Separated

@@ -10,6 +10,7 @@
 mod bits;
 mod black;
 mod colours;
+pub mod examples;
 mod given;
 mod pixels;
 mod quarters;

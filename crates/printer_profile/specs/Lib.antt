@@ -1,3 +1,4 @@
+pub mod Examples
 pub mod Keys
 pub mod Profiles
 pub mod Text

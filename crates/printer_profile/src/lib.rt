@@ -20,6 +20,7 @@
 #![tactic(auto)]
 
 mod built_ins;
+pub mod examples;
 mod fields;
 mod keys;
 mod laws;

@@ -1,5 +1,6 @@
 //! The files of the current folder as a shelf, which does not say what it holds.
-ghost use Rattle.std.specs.Prelude.{IfOk, ◌≡◌};
+ghost use Rattle.std.specs.IoError.{raw_os_error};
+ghost use Rattle.std.specs.Prelude.{IfOk, None, true, ◌≡◌};
 ghost use Rattle.weave_base.specs.Shelf.{IsWithin, is_file_name};
 
 use crate::{Found, Shelf, ShelfStop};
@@ -45,8 +46,8 @@ impl<R: Files> Shelf for DirShelf<R> {
 
     ghost faults = { λ s. s };
 
-    /// A name that is empty, `.` or `..` or has a `/` is absent. Any error of std is a fault, but a file that is not
-    /// found is absent, and `OutOfMemory` is `Memory`.
+    /// A name that is empty, `.` or `..` or has a `/` is absent, and so is a file that is not found. `Memory` is the
+    /// program's own want of memory. Each other error is a fault, also where the system is out of memory.
     fn read_text(&mut self, alloc: Global, name: &str, most: usize) -> Result<Found, ShelfStop>
         ensures within { IfOk result (IsWithin most) }
         ensures found { IfOk result (Finds None name.now most) }
@@ -59,7 +60,7 @@ impl<R: Files> Shelf for DirShelf<R> {
         }
         match read_file(&self.rt, alloc, name, most) {
             Ok(found) => Ok(found),
-            Err(error) if error.kind() == ErrorKind::OutOfMemory => Err(ShelfStop::Memory),
+            Err(error) if is_allocators(&error) => Err(ShelfStop::Memory),
             Err(_) => {
                 self.faults = self.faults.saturating_add(1);
                 Err(ShelfStop::Failed)
@@ -73,6 +74,13 @@ fn is_file_name(name: &str) -> bool
     ensures { result ≡ is_file_name name.now }
 {
     !name.is_empty() && name != "." && name != ".." && !name.as_bytes().contains(&b'/')
+}
+
+// Whether the program's own allocator refused memory. An error of the system has a number, also where it lacks memory.
+fn is_allocators(error: &io::Error) -> bool
+    ensures { result ≡ true → raw_os_error error.now ≡ None }
+{
+    error.kind() == ErrorKind::OutOfMemory && error.raw_os_error().is_none()
 }
 
 // Reads a file, or its first `most` + 1 bytes where it is longer than `most`.
