@@ -1,17 +1,17 @@
 //! What the program says about itself.
-use program_words::ProgramTexts;
+use program_words::{CAUSES, ProgramTexts};
 
 const HELP: &str = "\
 jinthbao - prints PWG Raster pages as ESC/P2 jobs, and shows what such jobs print
 
-usage: driver_program print [profile=NAME] [kernel=NAME] [workers=NUMBER] [cap=NUMBER]
-                            [shingle=1 | dead=NUMBER,..] < pages.pwg > job.prn
-       driver_program dots [profile=NAME] [most=NUMBER] < job.prn > images.pbm
-       driver_program list [most=NUMBER] < job.prn
-       driver_program profile [profile=NAME]
-       driver_program trial [profile=NAME] [kernel=NAME] [workers=NUMBER] [seed=NUMBER] [pages=NUMBER]
-                            [width=NUMBER] [height=NUMBER] [kind=NAME] [shingle=1 | dead=NUMBER,..]
-       driver_program --help | --version
+usage: jinthbao print [profile=NAME] [kernel=NAME] [workers=NUMBER] [cap=NUMBER]
+                      [shingle=1 | dead=NUMBER,..] < pages.pwg > job.prn
+       jinthbao dots [profile=NAME] [most=NUMBER] < job.prn > images.pbm
+       jinthbao list [most=NUMBER] < job.prn
+       jinthbao profile [profile=NAME]
+       jinthbao trial [profile=NAME] [kernel=NAME] [workers=NUMBER] [seed=NUMBER] [pages=NUMBER]
+                      [width=NUMBER] [height=NUMBER] [kind=NAME] [shingle=1 | dead=NUMBER,..]
+       jinthbao --help [CAUSE] | --version
 
 print    reads pages from standard input (PWG Raster, PWG 5102.4; grey, black, RGB and CMYK of 8 bits a colour,
          black of one bit), separates and diffuses each, and writes their job to standard output
@@ -51,13 +51,21 @@ exit status and line on standard error:
 7  out of memory                     memory ran out
 8  job: offset N: CAUSE              the job is no list of commands, or the printer refuses one
 
-What each CAUSE means stands in the manual pages (man jinthbao) and in docs/USING.md, which says what helps.
+jinthbao --help CAUSE says what a cause means, what is allowed, and what to do:
+1  NoCommand UnknownCommand NotKeyValue UnknownKey RepeatedKey BadValue Together
+2  Absent TooLong BadHead NotAscii NoEquals UnknownKey RepeatedKey BadValue Missing Resolution Nozzles Pitch
+   NotCoprime RowStep TopMargin BlackStart Curve NoSuchNozzle AllDead NoShingle
+3  BadSync Truncated NotPwg Resolution Width Height Kind BytesPerLine Order Transform RunPastLine
+   GroupPastPage TooManyPages
+8  Unknown BadLength BadValue RunCode Cut TooLong NotGraphics NoUnit NoMargins Density Rows Backward OffGrid
+   OffSheet Overprint
 ";
 
-const VERSION: &str = "jinthbao 1.0.0\n";
+const VERSION: &str = "jinthbao 1.1.0\n";
 
-/// What `--help` and `--version` ask for.
+/// What `--help`, with a cause or alone, and `--version` ask for.
 pub const TEXTS: ProgramTexts = ProgramTexts {
     help: HELP,
     version: VERSION,
+    causes: &CAUSES,
 };

@@ -1,13 +1,16 @@
 //! What the programs take from their command lines, and what they say about themselves.
 //!
 //! `read_words` gives the words after the program's name. No clause says which they are, since the system gives them;
-//! the stored runs of the programs test it. `text_of` gives a program's text of help or of its version exactly where
-//! the first word asks for it (`asked_text`). It takes no memory.
+//! the stored runs of the programs test it. `text_of` gives exactly the text that the words ask for, if they ask for
+//! one (`asked_text`): a program's help, its version, or what a cause of an error line means. `text_of` takes no memory.
+//! `CAUSES` is the table of these causes.
 #![tactic(auto)]
 
+mod causes;
 mod command_line;
 mod texts;
 
+pub use causes::{CAUSES, CauseText};
 pub use command_line::{NoWords, read_words};
 pub use texts::{ProgramTexts, text_of};
 pub use weave_base::Words;

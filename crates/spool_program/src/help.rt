@@ -1,11 +1,11 @@
 //! What the program says about itself.
-use program_words::ProgramTexts;
+use program_words::{CAUSES, ProgramTexts};
 
 const HELP: &str = "\
 jinthbao spool - prints PWG Raster files of several senders on one printer, as ESC/P2 jobs
 
-usage: spool_program [profile=NAME] [kernel=NAME] [workers=NUMBER] send=FILE,.. [send=FILE,..]..
-       spool_program --help | --version
+usage: jinthbao-spool [profile=NAME] [kernel=NAME] [workers=NUMBER] send=FILE,.. [send=FILE,..]..
+       jinthbao-spool --help [CAUSE] | --version
 
 Each word send= is a sender, from 1 to 8 of them, with 1 to 64 files of the current folder. All files are read before
 the first is printed, at most 268435456 bytes of each and 2147483648 of all. Each file is a job, and the jobs are
@@ -36,13 +36,17 @@ exit status and last line on standard error:
 7  out of memory                     memory ran out, before all jobs or in one of them
 9  jobs failed: N                    all jobs ran, and so many ended in status 3
 
-What each CAUSE means stands in the manual pages (man jinthbao-spool) and in docs/USING.md.
+jinthbao-spool --help CAUSE says what a cause means, what is allowed, and what to do:
+1  NotKeyValue UnknownKey RepeatedKey BadValue NoSend
+2  as of jinthbao print
+3  Absent TooLong
 ";
 
-const VERSION: &str = "jinthbao spool 1.0.0\n";
+const VERSION: &str = "jinthbao spool 1.1.0\n";
 
-/// What `--help` and `--version` ask for.
+/// What `--help`, with a cause or alone, and `--version` ask for.
 pub const TEXTS: ProgramTexts = ProgramTexts {
     help: HELP,
     version: VERSION,
+    causes: &CAUSES,
 };
