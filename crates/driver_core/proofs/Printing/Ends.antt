@@ -11,15 +11,16 @@ use Rattle.dot_planes.specs.Tables.{DotTable}
 use Rattle.ink_meter.specs.Accounts.{Account, IsFirstOver, all_inks}
 use Rattle.ink_meter.specs.declared.meters.OverCap.{OverCap}
 use Rattle.page_definitions.specs.Dots.{halftone}
-use Rattle.page_definitions.specs.Ways.{CanGo, KeepTo, Way, halftone_bytes_by, page_bytes_by}
+use Rattle.page_definitions.specs.Ways.{CanGo, KeepTo, Way, halftone_bytes_by, most_rasters, page_bytes_by}
 use Rattle.page_definitions.specs.Printing.{Prints}
 use Rattle.page_laws.proofs.WaysKept.{ways-keep, ways-print}
+use Rattle.page_writer.specs.AtMost.{AppendsAtMost}
 use Rattle.ink_meter.specs.Counts.{page_dots}
 use Rattle.printer_definitions.specs.Printer.{Printer, row_units}
 use Rattle.printer_profile.proofs.CheckedProfiles.{can_print}
 use Rattle.printer_profile.specs.Validity.{check}
 use Rattle.separation_definitions.specs.CanPrint.{CanPrint}
-use Rattle.separation_definitions.specs.Windows.{wanted_by}
+use Rattle.separation_definitions.specs.Windows.{wanted_by, window_of}
 use Rattle.pwg_definitions.specs.declared.faults.InputCause.{InputCause}
 use Rattle.pwg_definitions.specs.declared.pages.PageForm.{PageForm}
 use Rattle.pwg_definitions.specs.declared.pages.Wanted.{Wanted}
@@ -413,10 +414,11 @@ stream_done way p k {before} {left} {left'} {held} {now} {meters} old new number
 pub page_not_written : {way : Way} {p : Printer} {k : Table} {before left held now now' : Option (List ℕ)}
     {meters : Meters} (reader : PageReader) (number pages f0 f2 : ℕ) {g0 g1 g2 : ℕ} (page : Page)
     → CanPrintBy way p → (read : StreamRead way p k before left held now reader number page) → pages + 1 ≡ number
-    → CountsPages p k meters (read.done ++ page ∷ []) → AppendsPart now now' (page_bytes_by way page p k) → g0 ≤ g1 → Rose g1 g2
+    → CountsPages p k meters (read.done ++ page ∷ []) → AppendsPart now now' (page_bytes_by way page p k)
+    → AppendsAtMost (most_rasters way p (window_of page.form p).height) now now' → g0 ≤ g1 → Rose g1 g2
     → PrintedOutcome way p k (record { before = before; now = left; faults_before = f0; faults_now = f2 })
     (record { before = held; now = now'; faults_before = g0; faults_now = g2 }) meters pages (answer.Write number)
-page_not_written {way} {p} {k} {before} {left} {held} {now} {now'} {meters} reader number pages f0 f2 {g0} {g1} {g2} page can read next counts part later rose = (
+page_not_written {way} {p} {k} {before} {left} {held} {now} {now'} {meters} reader number pages f0 f2 {g0} {g1} {g2} page can read next counts part few later rose = (
   (
     rose_from g0 g1 g2 later rose,
     record {
@@ -429,6 +431,7 @@ page_not_written {way} {p} {k} {before} {left} {held} {now} {now'} {meters} read
       whole = read.written;
       prints = first_prints way p k read.bytes read.done (page ∷ []) _ _ can read.is;
       part = part;
+      few = few;
       passes = passes_of way p k read.bytes (read.done ++ page ∷ []) _ _ can read.is;
     },
     counts,

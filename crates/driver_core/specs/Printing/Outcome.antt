@@ -6,7 +6,8 @@ use Rattle.driver_answer.specs.declared.answer.Answer.{Answer}
 use Rattle.driver_answer.specs.declared.answer.Answer.TheVariants as answer
 use Rattle.ink_meter.specs.Accounts.{IsFirstOver, all_inks}
 use Rattle.page_definitions.specs.Printing.{Prints}
-use Rattle.page_definitions.specs.Ways.{KeepTo, Way, page_bytes_by}
+use Rattle.page_definitions.specs.Ways.{KeepTo, Way, most_rasters, page_bytes_by}
+use Rattle.page_writer.specs.AtMost.{AppendsAtMost}
 use Rattle.ink_meter.specs.Counts.{Admitted, counted, page_dots}
 use Rattle.printer_definitions.specs.Printer.{Printer}
 use Rattle.pwg_definitions.specs.declared.faults.InputCause.{InputCause}
@@ -14,7 +15,7 @@ use Rattle.pwg_definitions.specs.Stream.{Page}
 use Rattle.pwg_definitions.specs.Stream.StreamEnd.{Done, Fault}
 use Rattle.pwg_stream.specs.Taken.{TakesAllPages}
 use Rattle.pwg_stream.specs.declared.stops.StreamStop.{StreamStop}
-use Rattle.separation_definitions.specs.Windows.{wanted_by}
+use Rattle.separation_definitions.specs.Windows.{wanted_by, window_of}
 use Rattle.pwg_stream.specs.declared.stops.StreamStop.TheVariants as stream
 use Rattle.weave_base.specs.Parts.{AppendsPart}
 use Rattle.driver_core.specs.Outside.{HasRisen, Meters, Outside}
@@ -58,8 +59,9 @@ pub record PrintsTaken (way : Way) (p : Printer) (k : Table) (input out : Outsid
   pub prints : Prints p k pages (job_bytes way p k pages)
   pub passes : KeepTo way p k pages
 
--- The job of the pages before this one was written, which prints them, and a proper prefix of its own. All of them are
--- the first pages of what was read, and keep to the way of the head.
+-- The job of the pages before this one was written, which prints them, and a proper prefix of its own. This prefix has
+-- no more rasters of an ink than the way of the page takes. All of them are the first pages of what was read, and keep
+-- to the way of the head.
 pub record StopsInPage (way : Way) (p : Printer) (k : Table) (input out : Outside) (number : ℕ) : Type 0 where
   pub pages : List Page
   pub page : Page
@@ -69,6 +71,7 @@ pub record StopsInPage (way : Way) (p : Printer) (k : Table) (input out : Outsid
   pub whole : Appends out.before between (job_bytes way p k pages)
   pub prints : Prints p k pages (job_bytes way p k pages)
   pub part : AppendsPart between out.now (page_bytes_by way page p k)
+  pub few : AppendsAtMost (most_rasters way p (window_of page.form p).height) between out.now
   pub passes : KeepTo way p k (pages ++ page ∷ [])
 
 -- Each meter had room for each of these pages, and counted their dots and no others.

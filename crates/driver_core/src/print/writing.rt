@@ -3,7 +3,8 @@ ghost use Rattle.driver_core.specs.Runs.Fitting.{way_of};
 ghost use Rattle.driver_core.specs.Trying.Pages.{SumsBy};
 ghost use Rattle.page_definitions.specs.Dots.{Halftone, dots_wanted};
 ghost use Rattle.page_definitions.specs.Printing.{GivesSheet};
-ghost use Rattle.page_definitions.specs.Ways.{CanGo, halftone_bytes_by};
+ghost use Rattle.page_definitions.specs.Ways.{CanGo, halftone_bytes_by, most_rasters};
+ghost use Rattle.page_writer.specs.AtMost.{AppendsAtMost};
 ghost use Rattle.page_writer.specs.Shows.{Shows};
 ghost use Rattle.page_writer.specs.declared.strokes.WriteStop.TheVariants as stop;
 ghost use Rattle.printer_definitions.specs.Inks.{inks_of};
@@ -54,6 +55,9 @@ pub fn write_by_way<R: Threads + Sync, G, K: Sink>(
     ensures prints { (h : Halftone) → Shows profile.now planes.now h → GivesSheet profile.now
         (halftone_bytes_by (way_of job.now) profile.now h (form.height * row_units profile.now))
         (dots_wanted profile.now h) }
+    // at every answer
+    ensures few { (h : Halftone) → Shows profile.now planes.now h
+        → AppendsAtMost (most_rasters (way_of job.now) profile.now planes.now.rows) (K.held out.old) (K.held out.new) }
     ensures write { IsErrOf result stop.Write → Rose (K.faults out.old) (K.faults out.new) }
     ensures memory { IsErrOf result stop.Memory → Keeps (K.held out.old) (K.held out.new) }
     ensures later { K.faults out.old ≤ K.faults out.new }

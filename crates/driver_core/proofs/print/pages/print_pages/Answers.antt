@@ -1,7 +1,10 @@
-use Rattle.std.proofs.Common.{Err, Option, arith, ap, sym, ◌∙◌}
+use Rattle.std.proofs.Common.{ℕ, Err, Option, arith, ap, subst, sym, ◌∙◌}
 use Rattle.std.proofs.lemmas.Result.{err_from_is_err_and}
 use Rattle.diffusion_kernel.specs.Tables.{table_of}
 use Rattle.halftone_reader.specs.declared.pages.HalftonedPage.{HalftonedPage}
+use Rattle.page_definitions.specs.Ways.{most_rasters}
+use Rattle.page_writer.specs.AtMost.{AppendsAtMost}
+use Rattle.printer_definitions.specs.Printer.{Printer}
 use Rattle.pwg_definitions.specs.declared.pages.PageForm.{PageForm}
 use Rattle.separation_definitions.specs.Windows.{wanted_by, window_of}
 use Rattle.driver_core.specs.Runs.Fitting.{way_of}
@@ -72,10 +75,14 @@ returns-in-Err-Write-clause-outcome g c =
     c.in_ok-charge.ensures.room c.in_ok-charge.ensures.counted in
     let part = rw (page-bytes-is (way_of c.args.job.now) halftoned) at
     (c.in-Err-Write.ensures.part _ halftoned.dots (ap Err c.in-Err-Write.field-0-is)) in
+    let p : Printer = c.args.profile.now in
+    let P : ℕ → Type 0 = λ rows.
+    AppendsAtMost (most_rasters (way_of c.args.job.now) p rows) (g.K.Sink.held c.pages.out) (g.K.Sink.held c.write_by_way.new.out) in
     page_not_written c.read_page.new.reader c.pages.number c.pages.pages
     (g.S.Source.faults c.args.input.now) (g.S.Source.faults c.read_page.new.source) halftoned.page
     (can_go (way_of c.args.job.now) c.profile.view_is (omega (arith, c.if-prove.false)) c.requires.checked c.requires.way)
-    counted.0 c.pages.invariant.whole counted.1 part c.pages.invariant.written_later
+    counted.0 c.pages.invariant.whole counted.1 part
+    (subst P halftoned.dots.rows_is (c.in-Err-Write.ensures.few _ halftoned.dots)) c.pages.invariant.written_later
     (c.in-Err-Write.ensures.write (ap Err c.in-Err-Write.field-0-is))
 
 pub returns-in-Err-Memory-clause-outcome : goal.returns-in-Err-Memory-clause-outcome

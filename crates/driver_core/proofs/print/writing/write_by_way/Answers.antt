@@ -2,8 +2,9 @@ use Rattle.std.proofs.Common.{◌≡◌, ℕ, ◌*◌, List, OnOk, sym, subst, a
 use Rattle.std.specs.Io.KnownBytes.{Appends}
 use Rattle.page_definitions.specs.Dots.{dots_wanted}
 use Rattle.page_definitions.specs.Printing.{GivesSheet}
-use Rattle.page_definitions.specs.Ways.{CanGo, Way, halftone_bytes_by}
+use Rattle.page_definitions.specs.Ways.{CanGo, Way, halftone_bytes_by, most_rasters}
 use Rattle.page_definitions.specs.Ways.Way.{Healed, Shingled, Woven}
+use Rattle.page_writer.specs.AtMost.{AppendsAtMost}
 use Rattle.printer_definitions.specs.Printer.{Printer, row_units}
 use Rattle.std.specs.Prelude.{IfOk}
 use Rattle.weave_base.specs.Parts.{AppendsPart}
@@ -52,6 +53,13 @@ returns-then-job-clause-prints g c = λ h shows.
     let P : Way → Type 0 = λ way. GivesSheet p (halftone_bytes_by way p h (c.args.form.height * row_units p)) (dots_wanted p h) in
     subst P (sym (way-shingled c.args.job.now c.if-job.true)) (c.write_shingled.ensures.prints h shows)
 
+pub returns-then-job-clause-few : goal.returns-then-job-clause-few
+returns-then-job-clause-few g c = λ h shows.
+    let p : Printer = c.args.profile.now in
+    let P : Way → Type 0 = λ way.
+    AppendsAtMost (most_rasters way p c.args.planes.now.rows) (g.K.Sink.held c.args.out.now) (g.K.Sink.held c.write_shingled.new.sink) in
+    subst P (sym (way-shingled c.args.job.now c.if-job.true)) (c.write_shingled.ensures.few h shows)
+
 -- ---- interleaved passes
 
 pub returns-then-is_empty-clause-ok : goal.returns-then-is_empty-clause-ok
@@ -89,6 +97,14 @@ returns-then-is_empty-clause-prints g c = λ h shows.
     let P : Way → Type 0 = λ way. GivesSheet p (halftone_bytes_by way p h (c.args.form.height * row_units p)) (dots_wanted p h) in
     subst P (sym (way-woven c.args.job.now c.if-job.false (none_dead c.args.job.now.dead.items c.is_empty.result c.is_empty.ensures c.if-is_empty.true)))
     (c.write_page.ensures.prints h shows)
+
+pub returns-then-is_empty-clause-few : goal.returns-then-is_empty-clause-few
+returns-then-is_empty-clause-few g c = λ h shows.
+    let p : Printer = c.args.profile.now in
+    let P : Way → Type 0 = λ way.
+    AppendsAtMost (most_rasters way p c.args.planes.now.rows) (g.K.Sink.held c.args.out.now) (g.K.Sink.held c.write_page.new.sink) in
+    subst P (sym (way-woven c.args.job.now c.if-job.false (none_dead c.args.job.now.dead.items c.is_empty.result c.is_empty.ensures c.if-is_empty.true)))
+    (c.write_page.ensures.few h shows)
 
 -- ---- around dead nozzles
 
@@ -143,3 +159,11 @@ returns-else-is_empty-clause-prints g c = λ h shows.
     let prints = rw c.deref.ensures.0 at (c.write_healed.ensures.prints h shows) in
     let P : Way → Type 0 = λ way. GivesSheet p (halftone_bytes_by way p h (c.args.form.height * row_units p)) (dots_wanted p h) in
     subst P (sym (way-healed c.args.job.now c.if-job.false (some_dead c.args.job.now.dead.items c.is_empty.result c.is_empty.ensures c.if-is_empty.false))) prints
+
+pub returns-else-is_empty-clause-few : goal.returns-else-is_empty-clause-few
+returns-else-is_empty-clause-few g c = λ h shows.
+    let p : Printer = c.args.profile.now in
+    let few = rw c.deref.ensures.0 at (c.write_healed.ensures.few h shows) in
+    let P : Way → Type 0 = λ way.
+    AppendsAtMost (most_rasters way p c.args.planes.now.rows) (g.K.Sink.held c.args.out.now) (g.K.Sink.held c.write_healed.new.sink) in
+    subst P (sym (way-healed c.args.job.now c.if-job.false (some_dead c.args.job.now.dead.items c.is_empty.result c.is_empty.ensures c.if-is_empty.false))) few
