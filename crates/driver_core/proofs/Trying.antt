@@ -1,4 +1,5 @@
 -- Proofs for the command `trial`.
+pub mod Sheets
 pub mod Steps
 pub mod Made
 pub mod Promised

@@ -3,3 +3,4 @@ pub mod Summary
 pub mod Outcome
 pub mod Pages
 pub mod Promises
+pub mod Examples

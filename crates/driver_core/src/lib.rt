@@ -23,6 +23,7 @@
 
 mod answers;
 mod dots;
+pub mod examples;
 mod fitting;
 mod list;
 mod performing;

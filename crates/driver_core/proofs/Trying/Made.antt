@@ -1,11 +1,15 @@
 -- What a printer reads of the stream that is made for it: the made pages, or a refusal of their header.
-use Rattle.std.proofs.Common.{◌≡◌, ℕ, ◌<◌, ◌≤◌, ◌^◌, ◌⊎◌, Bool, true, false, if◌then◌else◌, [], Ok, Err, IsOk, inl, inr, refl, sym, ◌∙◌, ap, subst, arith}
+use Rattle.std.proofs.Common.{◌≡◌, ℕ, ◌<◌, ◌≤◌, ◌^◌, ◌⊎◌, Bool, true, false, if◌then◌else◌, List, [], Ok, Err, IsOk, inl, inr, refl, sym, ◌∙◌, ap, subst, arith}
 use Rattle.std.specs.Io.KnownBytes.{Keeps}
+use Rattle.diffusion_definitions.specs.Diffusion.{Table}
 use Rattle.diffusion_kernel.specs.Tables.{table_of}
 use Rattle.driver_answer.specs.declared.answer.Answer.{Answer}
 use Rattle.driver_answer.specs.declared.answer.Answer.TheVariants as answer
 use Rattle.job_words.specs.declared.reading.Job.{Job}
 use Rattle.job_words.specs.Jobs.{IsWithinBounds}
+use Rattle.page_definitions.specs.Printing.{Prints}
+use Rattle.page_definitions.specs.Ways.{CanGo}
+use Rattle.page_laws.proofs.WaysKept.{ways-keep, ways-print}
 use Rattle.page_maker.proofs.Checked.{check-made}
 use Rattle.page_maker.proofs.Spelled.{stream-made, stream-refused}
 use Rattle.printer_definitions.specs.Printer.{Printer}
@@ -18,18 +22,21 @@ use Rattle.pwg_definitions.specs.declared.pages.Kind.{Kind}
 use Rattle.pwg_definitions.specs.declared.pages.Kind.TheVariants as kinds
 use Rattle.pwg_definitions.specs.declared.pages.PageForm.{PageForm}
 use Rattle.pwg_definitions.specs.declared.pages.Wanted.{Wanted}
-use Rattle.pwg_definitions.specs.Header.{check, header_bytes, header_of, is_outside, line_bytes, row_of}
-use Rattle.pwg_definitions.specs.Stream.{Stream}
+use Rattle.pwg_definitions.specs.Header.{header_bytes, header_of, is_outside, line_bytes, row_of}
+use Rattle.pwg_definitions.specs.Stream.{Page, Stream}
 use Rattle.pwg_definitions.specs.Stream.StreamEnd.{Done, Fault}
 use Rattle.pwg_laws.proofs.HeaderLaws.{check-wanted}
-use Rattle.separation_definitions.specs.CanPrint.{CanPrint}
+use Rattle.pwg_laws.proofs.PageLaws.{stream-pages}
+use Rattle.separation_definitions.specs.CanPrint.{ArePages, CanPrint}
 use Rattle.separation_definitions.specs.Windows.{wanted_by}
 use Rattle.driver_core.specs.declared.trial.summary.Totals.{Totals}
 use Rattle.driver_core.specs.Outside.{Outside}
 use Rattle.driver_core.specs.Runs.Fitting.{way_of}
-use Rattle.driver_core.specs.Trying.Outcome.{IsMadeFault, RefusesMade, TakesMade, TrialOutcome, job_form, job_pages, job_summary, made_check}
+use Rattle.driver_core.specs.Trying.Outcome.{IsMadeFault, PrintsMade, RefusesMade, TakesMade, TrialOutcome, job_form, job_pages, job_summary}
+use Rattle.driver_core.specs.Trying.Outcome.{made_bytes, made_check, made_sheets}
 use Rattle.driver_core.specs.Trying.Pages.{StopsTrying, TriesAll, stream_read}
-use Rattle.driver_core.specs.Trying.Summary.{totals_line, totals_of}
+use Rattle.driver_core.specs.Trying.Summary.{stream_made, totals_line, totals_of}
+use Rattle.driver_core.proofs.Trying.Sheets.{sheets-dots, sheets-many}
 
 pub data ReadsMade (job : Job) (p : Printer) : Type 0 where
   Takes : TakesMade job p → stream_read job p ≡ record { pages = job_pages job; end = Done } → ReadsMade job p
@@ -49,7 +56,7 @@ fits : (dpi : ℕ) → (dpi ≡ 360) ⊎ (dpi ≡ 720) → dpi < 2 ^ 32
 fits dpi (inl is) = omega arith
 fits dpi (inr is) = omega arith
 
-reads_made : (job : Job) (p : Printer) → IsWithinBounds job → CanPrint p → ReadsMade job p
+pub reads_made : (job : Job) (p : Printer) → IsWithinBounds job → CanPrint p → ReadsMade job p
 reads_made job p within can = by_size wide tall refl refl
   where
     want : Wanted
@@ -90,12 +97,10 @@ reads_made job p within can = by_size wide tall refl refl
         (checks ∙ ap (λ (b : Bool). if b then Err fault.Width else if tall then Err fault.Height else Ok form) w_is
         ∙ ap (λ (b : Bool). if b then Err fault.Height else Ok form) t_is)
 
--- the same where a job can be printed, of the profile that stands for the printer
-pub job_reads : {q : Printer} (job : Job) (p : Printer) → q ≡ p → (IsOk (printer_check q) → CanPrint q) → IsOk (printer_check p)
-    → IsWithinBounds job → ReadsMade job p
-job_reads {q} job p same can checked within =
-    let P : Printer → Type 0 = λ p. IsOk (printer_check p) in
-    reads_made job p within (subst CanPrint same (can (subst P (sym same) checked)))
+-- the printer that a profile stands for can print
+pub stands_for : {q p : Printer} → q ≡ p → (IsOk (printer_check q) → CanPrint q) → IsOk (printer_check p) → CanPrint p
+stands_for same can checked =
+    let P : Printer → Type 0 = λ p. IsOk (printer_check p) in subst CanPrint same (can (subst P (sym same) checked))
 
 -- a stream that is read to its end has the made pages
 pub made_taken : (job : Job) (p : Printer) → ReadsMade job p → (stream_read job p).end ≡ Done
@@ -126,9 +131,27 @@ trial_stopped job p out (answer.Profile line found) reads stops keeps = absurd s
 trial_stopped job p out (answer.OverCap page total dots cap) reads stops keeps = absurd stops
 trial_stopped job p out (answer.Job offset found) reads stops keeps = absurd stops
 
--- the line of a trial whose pages were read to the end is the summary of the made pages
-pub trial_line : (job : Job) (p : Printer) (totals : Totals) → ReadsMade job p → TriesAll job p totals
-    → TakesMade job p × (totals_line totals ≡ job_summary job p)
-trial_line job p totals reads all =
-    let taken = made_taken job p reads all.takes in
-    (taken.0, ap totals_line (all.are ∙ ap (totals_of (way_of job) p (table_of job.kernel)) taken.1))
+-- the made pages that a printer takes are printed by their bytes
+made_printed : (job : Job) (p : Printer) → CanPrint p → CanGo (way_of job) p → TakesMade job p
+    → (stream_read job p).pages ≡ job_pages job → PrintsMade job p
+made_printed job p can go takes is =
+    let k : Table = table_of job.kernel in
+    let P : List Page → Type 0 = ArePages p in
+    let are : ArePages p (job_pages job) = subst P is (stream-pages (wanted_by p) (stream_made job p)) in
+    let prints : Prints p k (job_pages job) (made_bytes job p) = ways-print (way_of job) p k (job_pages job) can go are in
+    record {
+      takes = takes;
+      prints = prints;
+      passes = ways-keep (way_of job) p k (job_pages job) can go are;
+      sheets = sheets-many p k (job_pages job) (made_sheets job p) prints.sheets;
+      dots = sheets-dots p k (job_pages job) (made_sheets job p) can prints.sheets;
+    }
+
+-- the line of a trial whose pages were read to the end is the summary of the made pages, which are printed
+pub trial_line : (job : Job) (p : Printer) (totals : Totals) → CanPrint p → CanGo (way_of job) p → ReadsMade job p
+    → TriesAll job p totals → PrintsMade job p × (totals_line totals ≡ job_summary job p)
+trial_line job p totals can go reads all =
+    let taken = made_taken job p reads all.takes in (
+      made_printed job p can go taken.0 taken.1,
+      ap totals_line (all.are ∙ ap (totals_of (way_of job) p (table_of job.kernel)) taken.1),
+    )

@@ -17,7 +17,7 @@ use Rattle.weave_base.specs.Parts.{AppendsPart}
 use Rattle.driver_core.specs.Outside.{HasFailed, HasRisen, IsCalm, Outside, Outsides}
 use Rattle.driver_core.specs.Runs.Asking.{AsksFor}
 use Rattle.driver_core.specs.Runs.Outcome.{Outcome, Tells, Told, VerbOutcome, metered}
-use Rattle.driver_core.specs.Trying.Outcome.{RefusesMade, TakesMade, TrialOutcome, job_form, job_pages, job_summary}
+use Rattle.driver_core.specs.Trying.Outcome.{PrintsMade, RefusesMade, TakesMade, TrialOutcome, job_form, job_pages, job_summary}
 use Rattle.driver_core.specs.Trying.Promises.{TrialPromises}
 use Rattle.driver_core.proofs.Runs.Asked.{HasProfile, has_profile, told_line}
 use Rattle.driver_core.proofs.Runs.Asked.HasProfile.{HasNone, Does}
@@ -27,15 +27,15 @@ use Rattle.driver_core.proofs.Runs.Statuses.{is_done, is_input, is_memory, is_re
 -- ---- what a trial came to, by the status
 
 trial_done : (job : Job) (p : Printer) (out : Outside) (s : ℕ) (a : Answer) → TrialOutcome job p out a → s ≡ status_of a → s ≡ 0
-    → TakesMade job p × Appends out.before out.now (job_summary job p)
+    → PrintsMade job p × Appends out.before out.now (job_summary job p)
 trial_done job p out s a does e zero = subst (TrialOutcome job p out) (is_done a (sym zero ∙ e)) does
 
 pub trial_part : (job : Job) (p : Printer) (out : Outside) (s : ℕ) (a : Answer) → TrialOutcome job p out a → s ≡ status_of a → s ≡ 5
-    → AppendsPart out.before out.now (job_summary job p) × HasRisen out × (a ≡ answer.Write 0)
+    → PrintsMade job p × HasRisen out × AppendsPart out.before out.now (job_summary job p) × (a ≡ answer.Write 0)
 trial_part job p out s a does e five =
     let at = is_write a (sym five ∙ e) in
     let stops : TrialOutcome job p out (answer.Write at.0) = subst (TrialOutcome job p out) at.1 does in
-    (stops.3, stops.2, at.1 ∙ ap answer.Write stops.0)
+    (stops.1, stops.2, stops.3, at.1 ∙ ap answer.Write stops.0)
 
 trial_refused : (job : Job) (p : Printer) (out : Outside) (s : ℕ) (a : Answer) → TrialOutcome job p out a → s ≡ status_of a → s ≡ 3
     → (why : HeaderFault) × RefusesMade job p why × Keeps out.before out.now × (a ≡ answer.Input 1 0 (cause.Header why))
@@ -80,9 +80,9 @@ trial_calm job p out s (answer.Job offset cause) does e takes calm = absurd does
 
 trial_bad : (job : Job) (p : Printer) (out : Outside) (s : ℕ) (a : Answer) (why : HeaderFault)
     → TrialOutcome job p out a → s ≡ status_of a → RefusesMade job p why → (s ≡ 3) ⊎ (s ≡ 7)
-trial_bad job p out s answer.Done why does e refuses = absurd (never_both job p why does.0 refuses)
+trial_bad job p out s answer.Done why does e refuses = absurd (never_both job p why does.0.takes refuses)
 trial_bad job p out s (answer.Input page line found) why does e refuses = inl e
-trial_bad job p out s (answer.Write page) why does e refuses = absurd (never_both job p why does.1 refuses)
+trial_bad job p out s (answer.Write page) why does e refuses = absurd (never_both job p why does.1.takes refuses)
 trial_bad job p out s answer.Memory why does e refuses = inr e
 trial_bad job p out s (answer.Usage fault) why does e refuses = absurd does
 trial_bad job p out s (answer.Profile line found) why does e refuses = absurd does
@@ -94,7 +94,7 @@ trial_bad job p out s (answer.Job offset found) why does e refuses = absurd does
 
 try_zero : (words : List (List ℕ)) (o : Outsides) (a : Answer) (s : ℕ) (job : Job) (p : Printer)
     → Outcome words o a → s ≡ status_of a → AsksFor words o.shelf.told verb.Trial job (Ok p) → s ≡ 0
-    → TakesMade job p × Appends o.out.before o.out.now (job_summary job p) × (length (job_pages job) ≡ job.pages)
+    → PrintsMade job p × Appends o.out.before o.out.now (job_summary job p) × (length (job_pages job) ≡ job.pages)
 try_zero words o a s job p outcome is asks zero =
     let does = at_work words verb.Trial job p o a s is (λ e. omega arith) (λ e. omega arith) trial_is_none asks outcome in
     let done = trial_done job p o.out s a does.2 is zero in
@@ -102,12 +102,12 @@ try_zero words o a s job p outcome is asks zero =
 
 try_five : (words : List (List ℕ)) (o : Outsides) (err : Outside) (a : Answer) (s : ℕ) (job : Job) (p : Printer)
     → Outcome words o a → Told err a → s ≡ status_of a → AsksFor words o.shelf.told verb.Trial job (Ok p) → s ≡ 5
-    → AppendsPart o.out.before o.out.now (job_summary job p) × Tells err (answer.Write 0)
+    → PrintsMade job p × AppendsPart o.out.before o.out.now (job_summary job p) × Tells err (answer.Write 0)
 try_five words o err a s job p outcome told is asks five =
     let does = at_work words verb.Trial job p o a s is (λ e. omega arith) (λ e. omega arith) trial_is_none asks outcome in
     let part = trial_part job p o.out s a does.2 is five in
     let T : Answer → Type 0 = λ b. Told err b in
-    (part.0, told_line err (answer.Write 0) (subst T part.2 told))
+    (part.0, part.2, told_line err (answer.Write 0) (subst T part.3 told))
 
 try_three : (words : List (List ℕ)) (o : Outsides) (err : Outside) (a : Answer) (s : ℕ) (job : Job) (p : Printer)
     → Outcome words o a → Told err a → s ≡ status_of a → AsksFor words o.shelf.told verb.Trial job (Ok p) → s ≡ 3

@@ -39,6 +39,7 @@ use Rattle.driver_core.specs.Printing.Pages.{job_bytes}
 use Rattle.driver_core.specs.Trying.Pages.{StopsTrying, TriesAll, TriesPage, stream_read}
 use Rattle.driver_core.specs.Trying.Summary.{dots_of_pages, rasters_of, rasters_of_pages, stream_made, totals_of}
 use Rattle.driver_core.proofs.Printing.StreamSteps.{StreamRead, StreamSoFar, begun, job-append, read_on, written_on}
+use Rattle.driver_core.proofs.Trying.Sheets.{same-counts}
 
 -- ---- one page more
 
@@ -46,14 +47,6 @@ rasters-append : (way : Way) (p : Printer) (k : Table) (done : List Page) (page 
     → rasters_of_pages way p k (done ++ page ∷ []) ≡ rasters_of_pages way p k done + rasters_of (page_bytes_by way page p k)
 rasters-append way p k [] page = omega arith
 rasters-append way p k (first ∷ done) page = omega (arith, rasters-append way p k done page)
-
--- counts of each ink that are the same are the same counts
-same-counts : (a b : InkCounts) → a.k ≡ b.k → a.c ≡ b.c → a.m ≡ b.m → a.y ≡ b.y → a ≡ b
-same-counts a b k c m y =
-    ap (λ n. let counts : InkCounts = record { k = n; c = a.c; m = a.m; y = a.y } in counts) k
-    ∙ ap (λ n. let counts : InkCounts = record { k = b.k; c = n; m = a.m; y = a.y } in counts) c
-    ∙ ap (λ n. let counts : InkCounts = record { k = b.k; c = b.c; m = n; y = a.y } in counts) m
-    ∙ ap (λ n. let counts : InkCounts = record { k = b.k; c = b.c; m = b.m; y = n } in counts) y
 
 dots-append : (p : Printer) (k : Table) (done : List Page) (page : Page)
     → dots_of_pages p k (done ++ page ∷ []) ≡ together (dots_of_pages p k done) (page_dots page p k)

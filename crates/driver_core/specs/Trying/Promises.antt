@@ -5,7 +5,7 @@ use Rattle.driver_answer.specs.declared.answer.Answer.TheVariants as answer
 use Rattle.driver_core.specs.Outside.{HasFailed, IsCalm, Outside, Outsides}
 use Rattle.driver_core.specs.Runs.Asking.{AsksFor}
 use Rattle.driver_core.specs.Runs.Outcome.{Tells}
-use Rattle.driver_core.specs.Trying.Outcome.{RefusesMade, TakesMade, job_pages, job_summary}
+use Rattle.driver_core.specs.Trying.Outcome.{PrintsMade, RefusesMade, TakesMade, job_pages, job_summary}
 use Rattle.job_words.specs.declared.reading.Job.{Job}
 use Rattle.job_words.specs.declared.table.Verb.TheVariants as verb
 use Rattle.job_words.specs.Meaning.{job_meaning, profile_named}
@@ -18,12 +18,13 @@ use Rattle.weave_base.specs.Parts.{AppendsPart}
 -- The promises of a run for the command `trial`, by its words, the outside, the error sink and the status that it
 -- returns.
 pub record TrialPromises (words : List (List ℕ)) (o : Outsides) (err : Outside) (status : ℕ) : Type 0 where
-  -- On 0 the printer takes the made pages, and the summary of them was written, which are as many as the words ask for.
+  -- On 0 the made pages are printed by their bytes, and the summary of these pages was written. They are as many as the
+  -- words ask for.
   pub tried : (job : Job) (p : Printer) → AsksFor words o.shelf.told verb.Trial job (Ok p) → status ≡ 0
-      → TakesMade job p × Appends o.out.before o.out.now (job_summary job p) × (length (job_pages job) ≡ job.pages)
-  -- On 5 a proper prefix of it was written.
+      → PrintsMade job p × Appends o.out.before o.out.now (job_summary job p) × (length (job_pages job) ≡ job.pages)
+  -- On 5 the pages are printed by their bytes too, and a proper prefix of the summary was written.
   pub part_tried : (job : Job) (p : Printer) → AsksFor words o.shelf.told verb.Trial job (Ok p) → status ≡ 5
-      → AppendsPart o.out.before o.out.now (job_summary job p) × Tells err (answer.Write 0)
+      → PrintsMade job p × AppendsPart o.out.before o.out.now (job_summary job p) × Tells err (answer.Write 0)
   -- On 3 the printer refuses the header of the made pages, and the error line says why: page 1, line 0. Then, and on 4
   -- and 7, nothing was written.
   pub refused_made : (job : Job) (p : Printer) → AsksFor words o.shelf.told verb.Trial job (Ok p) → status ≡ 3

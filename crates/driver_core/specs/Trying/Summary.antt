@@ -4,10 +4,11 @@ use Rattle.std.specs.List.{sum_by}
 use Rattle.diffusion_definitions.specs.Diffusion.{Table}
 use Rattle.driver_core.specs.Printing.Pages.{job_bytes}
 use Rattle.escp2_definitions.specs.Commands.{Entry, commands}
+use Rattle.escp2_definitions.specs.Machine.{Sheet}
 use Rattle.escp2_definitions.specs.Rasters.{raster_count}
 use Rattle.job_words.specs.declared.reading.Job.{Job}
 use Rattle.ink_meter.specs.Accounts.{together}
-use Rattle.ink_meter.specs.Counts.{page_dots}
+use Rattle.ink_meter.specs.Counts.{ink_dots, page_dots}
 use Rattle.page_definitions.specs.Ways.{Way, page_bytes_by}
 use Rattle.driver_core.specs.declared.trial.summary.Totals.{Totals}
 use Rattle.page_maker.specs.Made.{made_form, made_stream}
@@ -39,6 +40,11 @@ totals_line t =
 abbrev pub dots_of_pages : Printer → Table → List Page → InkCounts
 dots_of_pages p k [] = record { k = 0; c = 0; m = 0; y = 0 }
 dots_of_pages p k (page ∷ pages) = together (page_dots page p k) (dots_of_pages p k pages)
+
+-- the dots of each ink on sheets
+abbrev pub dots_of_sheets : List Sheet → InkCounts
+dots_of_sheets [] = record { k = 0; c = 0; m = 0; y = 0 }
+dots_of_sheets (sheet ∷ sheets) = together (ink_dots sheet.dots) (dots_of_sheets sheets)
 
 -- what pages come to that are printed this way: how many they are, as many sheets, the bytes and rasters of their job,
 -- and the dots of each ink on all sheets

@@ -1,33 +1,37 @@
 use Rattle.std.proofs.Common.{List, ℕ, refl, subst}
 use Rattle.std.specs.Io.KnownBytes.{Appends}
 use Rattle.std.proofs.lemmas.Result.{err_from_is_err_and}
+use Rattle.separation_definitions.specs.CanPrint.{CanPrint}
 use Rattle.weave_base.specs.Parts.{AppendsPart}
 use Rattle.driver_core.specs.Outside.{Outside, outside_of}
 use Rattle.driver_core.proofs.Runs.Asked.{keeps}
-use Rattle.driver_core.proofs.Trying.Made.{ReadsMade, job_reads, trial_line, trial_stopped}
+use Rattle.driver_core.proofs.Trying.Made.{ReadsMade, reads_made, stands_for, trial_line, trial_stopped}
 use Rattle.driver_core.proofs.trial.pages.try_pages.Goals as goal
 
 pub returns-in_err-totals : goal.returns-in_err-totals
 returns-in_err-totals g c =
     let error = err_from_is_err_and c.from_residual.result c.from_residual.ensures.1 in
     let out : Outside = outside_of g.K.Sink.held g.K.Sink.faults c.args.out.now c.args.out.now in
+    let can : CanPrint c.args.profile.now = stands_for c.profile.view_is c.checked_can_print.ensures c.requires.printed.checked in
     let reads : ReadsMade c.args.job.now c.args.profile.now =
-    job_reads c.args.job.now c.args.profile.now c.profile.view_is c.checked_can_print.ensures c.requires.printed.checked c.requires.made in
+    reads_made c.args.job.now c.args.profile.now c.requires.made can in
     rw error.1 (trial_stopped c.args.job.now c.args.profile.now out error.0 reads
     (rw (← error.2) at c.in_err-totals.ensures.err) (keeps (g.K.Sink.held c.args.out.now)))
 
 pub returns-in-Ok-write_summary : goal.returns-in-Ok-write_summary
 returns-in-Ok-write_summary g c =
+    let can : CanPrint c.args.profile.now = stands_for c.profile.view_is c.checked_can_print.ensures c.requires.printed.checked in
     let reads : ReadsMade c.args.job.now c.args.profile.now =
-    job_reads c.args.job.now c.args.profile.now c.profile.view_is c.checked_can_print.ensures c.requires.printed.checked c.requires.made in
-    let line = trial_line c.args.job.now c.args.profile.now c.in_ok-totals.totals reads c.in_ok-totals.ensures.ok in
+    reads_made c.args.job.now c.args.profile.now c.requires.made can in
+    let line = trial_line c.args.job.now c.args.profile.now c.in_ok-totals.totals can c.requires.printed.way reads c.in_ok-totals.ensures.ok in
     let P : List ℕ → Type 0 = λ bytes. Appends (g.K.Sink.held c.args.out.now) (g.K.Sink.held c.write_summary.new.out) bytes in
     (line.0, subst P line.1 c.in-Ok-write_summary.ensures.ok)
 
 pub returns : goal.returns
 returns g c =
+    let can : CanPrint c.args.profile.now = stands_for c.profile.view_is c.checked_can_print.ensures c.requires.printed.checked in
     let reads : ReadsMade c.args.job.now c.args.profile.now =
-    job_reads c.args.job.now c.args.profile.now c.profile.view_is c.checked_can_print.ensures c.requires.printed.checked c.requires.made in
-    let line = trial_line c.args.job.now c.args.profile.now c.in_ok-totals.totals reads c.in_ok-totals.ensures.ok in
+    reads_made c.args.job.now c.args.profile.now c.requires.made can in
+    let line = trial_line c.args.job.now c.args.profile.now c.in_ok-totals.totals can c.requires.printed.way reads c.in_ok-totals.ensures.ok in
     let P : List ℕ → Type 0 = λ bytes. AppendsPart (g.K.Sink.held c.args.out.now) (g.K.Sink.held c.write_summary.new.out) bytes in
     (refl, line.0, c.in-Err.ensures.cause.failed, subst P line.1 c.in-Err.ensures.part)
