@@ -1,4 +1,4 @@
-# Completion of jinthbao and jinthbao-spool in bash, for /usr/share/bash-completion/completions
+# Completion of jinthbao, jinthbao-spool and jinthbao-view in bash, for /usr/share/bash-completion/completions
 
 _jinthbao_profiles() {
     printf '%s\n' tiny1 tiny p360k p360cmyk p720cmyk
@@ -62,5 +62,24 @@ _jinthbao_spool() {
     ((COMP_CWORD > 1)) || COMPREPLY+=($(compgen -W "--help --version" -- "${COMP_WORDS[1]}"))
 }
 
+_jinthbao_view() {
+    local word=${COMP_WORDS[COMP_CWORD]}
+    COMPREPLY=()
+    case ${COMP_WORDS[COMP_CWORD - 1]} in
+    -p | --profile) COMPREPLY=($(compgen -W "$(_jinthbao_profiles)" -- "$word")) ;;
+    -r | --resolution) COMPREPLY=($(compgen -W "36 72 144" -- "$word")) ;;
+    -s | --sheet) ;;
+    *)
+        if [[ $word == -* ]]; then
+            COMPREPLY=($(compgen -W "--profile --resolution --sheet --output --help" -- "$word"))
+        else
+            compopt -o filenames
+            mapfile -t COMPREPLY < <(compgen -f -- "$word")
+        fi
+        ;;
+    esac
+}
+
 complete -F _jinthbao jinthbao
 complete -F _jinthbao_spool jinthbao-spool
+complete -F _jinthbao_view jinthbao-view
