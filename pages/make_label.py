@@ -2,7 +2,7 @@
 """Writes label.pwg, a label of 62 x 29 mm in black with 1 bit a pixel, at 360 dots an inch: a frame, two lines of text,
 and a row of bars.
 """
-from make_page import BLACK_1, write_page
+from make_page import BLACK_1, run, write_page
 
 WIDTH, HEIGHT = 879, 411  # 62 x 29 mm
 MARGIN, FRAME = 24, 4
@@ -47,4 +47,4 @@ def pixel_at(x, y):
 
 
 if __name__ == "__main__":
-    write_page("label.pwg", (WIDTH, HEIGHT), BLACK_1, pixel_at)
+    run(lambda _words: write_page("label.pwg", (WIDTH, HEIGHT), BLACK_1, pixel_at), __doc__)

@@ -2,14 +2,14 @@
 """Writes nozzles.pwg, by which a dead nozzle is found: a page on which each nozzle of a head draws a dash of its own,
 with its number above it. Each ink of the profile has a block of dashes: black, cyan, magenta and yellow, from the top.
 
-    driver_program profile profile=NAME | make_nozzles.py
+    jinthbao profile profile=NAME | make_nozzles.py
 
 The text of the profile is read from standard input. Print the page with that profile, its curves straight and its
 limits 255, and without the words shingle and dead: a dash that is missing is a nozzle that does not fire.
 """
 import sys
 
-from make_page import CMYK_8, write_page
+from make_page import CMYK_8, Refused, read_profile, run, write_page
 
 DIGITS = {
     "0": ".###. #...# #..## #.#.# ##..# #...# .###.",
@@ -29,23 +29,17 @@ ACROSS, SPREAD, DASH, BLOCK, LABEL = 10, 6, 16, 20, 9
 PLACES = {"k": 3, "c": 0, "m": 1, "y": 2}
 
 
-def read_profile(lines):
-    """The values of a profile's text, by their keys."""
-    return dict(line.strip().split("=", 1) for line in lines if "=" in line)
-
-
 class Pattern:
     """Where the page has ink."""
 
     def __init__(self, profile):
-        self.nozzles, self.pitch = int(profile["nozzles"]), int(profile["pitch"])
-        self.left, self.right, self.top, self.bottom = (
-            int(profile[side]) for side in ("left", "right", "top", "bottom"))
-        self.resolution = int(profile["hdpi"]), int(profile["vdpi"])
-        self.inks = {"k": "k", "cmy": "cmy", "cmyk": "kcmy"}[profile["inks"]]
+        self.nozzles = profile.nozzles
+        self.left, self.right, self.top, self.bottom = profile.left, profile.right, profile.top, profile.bottom
+        self.resolution = profile.hdpi, profile.vdpi
+        self.inks = {"k": "k", "cmy": "cmy", "cmyk": "kcmy"}[profile.inks]
         # a point of a digit is a fifth of a millimetre, at least a pixel
         self.across, self.down = (max(1, dpi // 120) for dpi in self.resolution)
-        self.inverse = pow(self.pitch, -1, self.nozzles) if self.nozzles > 1 else 0
+        self.inverse = pow(profile.pitch, -1, self.nozzles) if self.nozzles > 1 else 0
         self.band = LABEL * self.down + self.nozzles + 4 * self.down
         self.bands = -(-self.nozzles // ACROSS)
 
@@ -85,12 +79,12 @@ class Pattern:
         return bytes(amounts)
 
 
-def main():
-    pattern = Pattern(read_profile(sys.stdin))
+def main(_words):
+    if sys.stdin is None or sys.stdin.isatty():
+        raise Refused("the text of a profile is wanted on standard input: jinthbao profile | make_nozzles.py")
+    pattern = Pattern(read_profile("-"))
     write_page("nozzles.pwg", pattern.size(), CMYK_8, pattern.pixel, pattern.resolution)
 
 
 if __name__ == "__main__":
-    if len(sys.argv) != 1:
-        sys.exit(__doc__)
-    main()
+    run(main, __doc__)

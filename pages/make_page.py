@@ -4,8 +4,11 @@ an inch: sample.pwg, grey with 8 bits a pixel, a frame, a grey ramp and a disc; 
 colours from white to full, and a ramp of grey.
 """
 
+import os
 import struct
+import sys
 from collections import namedtuple
+from math import gcd
 from pathlib import Path
 
 WIDTH, HEIGHT, DPI = 200, 120, 360
@@ -17,6 +20,61 @@ HEADER_BYTES = 1796
 Kind = namedtuple("Kind", "space colours bits")
 SGRAY_8, SRGB_8 = Kind(18, 1, 8), Kind(19, 3, 8)
 BLACK_1, CMYK_8 = Kind(3, 1, 1), Kind(6, 4, 8)
+
+
+class Refused(Exception):
+    """What is wrong with a word or an input, in a sentence."""
+
+
+# what a page is made for: dots an inch, the head, the inks, and the margins
+Profile = namedtuple("Profile", "hdpi vdpi nozzles pitch inks left right top bottom")
+MARGINS = {"left": "0", "right": "0", "top": "0", "bottom": "0"}
+
+
+def whole_number(word, least=1):
+    if not (word.isascii() and word.isdecimal()) or int(word) < least:
+        raise Refused(f"'{word}' is no whole number from {least} on")
+    return int(word)
+
+
+def read_profile(name):
+    """The profile whose text is in a file, or comes from standard input if the name is -."""
+    if name == "-":
+        text = sys.stdin.buffer.read() if sys.stdin else b""
+    else:
+        text = Path(name).read_bytes()
+    head, *lines = text.decode("ascii", "replace").splitlines() or [""]
+    if not head.startswith("escp2-profile "):
+        raise Refused("this is no text of a profile, which `jinthbao profile profile=NAME` writes")
+    values = MARGINS | dict(line.split("=", 1) for line in lines if "=" in line and not line.startswith("#"))
+    try:
+        profile = Profile(*(values[key] if key == "inks" else whole_number(values[key], 0) for key in Profile._fields))
+    except KeyError as error:
+        raise Refused(f"the text of the profile lacks {error}") from None
+    resolutions = profile.hdpi in (360, 720) and profile.vdpi in (360, 720)
+    if not resolutions or profile.inks not in ("k", "cmy", "cmyk") or gcd(profile.nozzles, profile.pitch) != 1:
+        raise Refused("the driver refuses this profile: `jinthbao profile` says why")
+    return profile
+
+
+def run(main, usage, most_words=0):
+    """Runs a script with its words, at most so many. What goes wrong is told in a sentence."""
+    name, words = Path(sys.argv[0]).name, sys.argv[1:]
+    if len(words) > most_words or words[:1] in (["-h"], ["--help"]):
+        sys.exit(usage.strip())
+    if sys.stdout is None:
+        sys.exit(f"{name}: standard output is closed")
+    try:
+        main(words)
+        sys.stdout.flush()
+    except Refused as refused:
+        sys.exit(f"{name}: {refused}")
+    except BrokenPipeError:
+        # what is left to write goes nowhere, so that the end of the script does not fail too
+        os.dup2(os.open(os.devnull, os.O_WRONLY), sys.stdout.fileno())
+        sys.exit(f"{name}: standard output was closed by its reader")
+    except OSError as error:
+        sys.exit(f"{name}: {error.filename}: {error.strerror}" if error.filename else f"{name}: {error}")
 
 
 def page_header(width, height, resolution, kind):
@@ -145,10 +203,10 @@ def packed(bits):
     return [bytes([sum(128 >> place for place in range(8) if whole[x + place])]) for x in range(0, len(whole), 8)]
 
 
-def main():
+def main(_words):
     write_page("sample.pwg", (WIDTH, HEIGHT), SGRAY_8, pixel_at)
     write_page("colour.pwg", (COLOUR_WIDTH, COLOUR_HEIGHT), SRGB_8, colour_at)
 
 
 if __name__ == "__main__":
-    main()
+    run(main, __doc__)

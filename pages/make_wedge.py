@@ -1,44 +1,47 @@
 #!/usr/bin/env python3
-"""Writes wedge.pwg, by which the tone curves of an ink are found: a page of CMYK with 8 bits a colour at 360 dots an
-inch. A row of fields for each ink, black, cyan, magenta and yellow from the top, has the amounts 0, 16, 32 and so on to
-240, and 255, from the left: those of the 17 points of a curve.
+"""Writes wedge.pwg, by which the tone curves of an ink are found: a page of CMYK with 8 bits a colour. A row of fields
+for each ink, black, cyan, magenta and yellow from the top, has the amounts 0, 16, 32 and so on to 240, and 255, from
+the left: those of the 17 points of a curve.
 
-    make_wedge.py [FIELD]
+    make_wedge.py [FIELD [PROFILE]]
 
-FIELD is the width and height of a field in pixels, 24 where it is not given. For a densitometer give 100 or more: 100
-pixels are 7 millimetres.
+FIELD is the width of a field in pixels, 24 without it. For a densitometer a field of 7 millimetres is large enough: 100
+pixels at 360 dots an inch, 200 at 720. PROFILE is a file with the text of a profile, or - for standard input. The page
+has its resolution, its margins, and rows for its inks; without it, those of p360cmyk.
 """
-import sys
+from make_page import CMYK_8, Profile, Refused, read_profile, run, whole_number, write_page
 
-from make_page import CMYK_8, write_page
-
-# the margins of the profile p360cmyk
-LEFT, RIGHT, TOP, BOTTOM = 45, 45, 60, 60
+P360CMYK = Profile(hdpi=360, vdpi=360, nozzles=15, pitch=4, inks="cmyk", left=45, right=45, top=60, bottom=60)
 AMOUNTS = [min(255, 16 * step) for step in range(17)]
-# the place of black, cyan, magenta and yellow in a pixel's four bytes
-PLACES = [3, 0, 1, 2]
+# the place of an ink in a pixel's four bytes
+PLACES = {"k": 3, "c": 0, "m": 1, "y": 2}
+MOST_COLUMNS, MOST_INCHES = 8191, 22
 
 
-def wedge(field):
-    """The function that gives the pixel at a place."""
+def wedge(profile, width, height, inks):
+    """The function that gives the pixel at a place, for fields of a width and a height."""
 
     def pixel(x, y):
-        step, ink = (x - LEFT) // field, (y - TOP) // field
+        step, row = (x - profile.left) // width, (y - profile.top) // height
         amounts = bytearray(4)
-        if 0 <= step < len(AMOUNTS) and 0 <= ink < len(PLACES):
-            amounts[PLACES[ink]] = AMOUNTS[step]
+        if 0 <= step < len(AMOUNTS) and 0 <= row < len(inks):
+            amounts[PLACES[inks[row]]] = AMOUNTS[step]
         return bytes(amounts)
 
     return pixel
 
 
 def main(words):
-    if len(words) > 1:
-        sys.exit(__doc__)
-    field = int(words[0]) if words else 24
-    size = LEFT + len(AMOUNTS) * field + RIGHT, TOP + len(PLACES) * field + BOTTOM
-    write_page("wedge.pwg", size, CMYK_8, wedge(field))
+    width = whole_number(words[0]) if words else 24
+    profile = read_profile(words[1]) if len(words) > 1 else P360CMYK
+    # a field is as high as it is wide
+    height = max(1, width * profile.vdpi // profile.hdpi)
+    inks = [ink for ink in "kcmy" if ink in profile.inks]
+    size = profile.left + len(AMOUNTS) * width + profile.right, profile.top + len(inks) * height + profile.bottom
+    if size[0] > MOST_COLUMNS or size[1] > MOST_INCHES * profile.vdpi:
+        raise Refused(f"fields of {width} pixels make a page that is too large: {size[0]} x {size[1]} pixels")
+    write_page("wedge.pwg", size, CMYK_8, wedge(profile, width, height, inks), (profile.hdpi, profile.vdpi))
 
 
 if __name__ == "__main__":
-    main(sys.argv[1:])
+    run(main, __doc__, 2)

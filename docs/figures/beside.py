@@ -1,67 +1,62 @@
-#!/usr/bin/env python3
+#!/usr/bin/python3
 """Draws a page and its print side by side as a PNG: at the left the pixels of the page inside the profile's margins, at
-the right the dots of the job's first sheet, each pixel and each dot a square of some pixels.
+the right the dots of its print, each pixel and each dot a square of some pixels.
 
-    beside.py SCALE LEFT RIGHT TOP BOTTOM FILE.png PAGES JOB
+    beside.py SCALE LEFT RIGHT TOP BOTTOM FILE.png PAGES PICTURE
 
-The page is 8-bit grey or RGB at 360 dots an inch, as `pages/make_page.py` writes it. The margins are the profile's.
+The page is the first of PAGES, 8-bit grey or RGB, as `pages/make_page.py` writes it. The margins are the profile's.
+PICTURE is what jinthbao-view made of the job, a pixel a dot.
 """
 import struct
-import sys
 
-from page import TAKES, png, sheets
+from figure import Refused, number, run
+from page import Image, enlarged, read_picture
 
 GAP = 12  # pixels of white between the page and the print
+MODES = {8: "L", 24: "RGB"}
 
 
-def page_lines(stream):
-    """The lines of the first page, each a list of (red, green, blue)."""
-    header = stream[4:1800]
-    width, height = struct.unpack(">II", header[372:380])
-    colours = struct.unpack(">I", header[388:392])[0] // 8
-    lines, at = [], 1800
-    while len(lines) < height:
-        repeats, line = stream[at] + 1, b""
-        at += 1
-        while len(line) < width * colours:
-            control = stream[at]
-            if control < 128:
-                line += stream[at + 1 : at + 1 + colours] * (control + 1)
-                at += 1 + colours
-            else:
-                line += stream[at + 1 : at + 1 + colours * (257 - control)]
-                at += 1 + colours * (257 - control)
-        units = [line[x : x + colours] for x in range(0, len(line), colours)]
-        lines += repeats * [[tuple(unit) if colours == 3 else 3 * tuple(unit) for unit in units]]
-    return lines
+def read_line(stream, at, size, unit):
+    """A coded line of so many bytes, and where the next one begins."""
+    line = b""
+    while len(line) < size:
+        control = stream[at]
+        count = unit if control < 128 else unit * (257 - control)
+        line += stream[at + 1:at + 1 + count] * (control + 1 if control < 128 else 1)
+        at += 1 + count
+    return line, at
 
 
-def printed_lines(dots, width, height, top):
-    """The paper under the window, each place a list of (red, green, blue): white less what each ink takes."""
-    lines = [[(255, 255, 255)] * width for _ in range(height)]
-    for x, y, colour in dots:
-        row, column = y // 10 - top, x // 10
-        lines[row][column] = tuple(max(0, had - taken) for had, taken in zip(lines[row][column], TAKES[colour]))
-    return lines
+def read_page(name):
+    """The first page as a picture."""
+    with open(name, "rb") as file:
+        stream = file.read()
+    try:
+        width, height = struct.unpack(">II", stream[376:384])
+        mode = MODES[struct.unpack(">I", stream[392:396])[0]]
+        unit, lines, at = len(mode), b"", 1800
+        while len(lines) < width * height * unit:
+            line, end = read_line(stream, at + 1, width * unit, unit)
+            lines, at = lines + line * (stream[at] + 1), end
+        return Image.frombytes(mode, (width, height), lines).convert("RGB")
+    except (IndexError, KeyError, ValueError, struct.error):
+        raise Refused(f"{name}: no page of 8-bit grey or RGB") from None
 
 
-def enlarged(line, scale):
-    return b"".join(bytes(pixel) * scale for pixel in line)
-
-
-def main():
-    scale, left, right, top, bottom = map(int, sys.argv[1:6])
-    with open(sys.argv[7], "rb") as pages, open(sys.argv[8], "rb") as job:
-        page = page_lines(pages.read())
-        dots = next(sheets(job.read()))
-    window = [line[left : len(line) - right] for line in page[top : len(page) - bottom]]
-    width, height = len(window[0]), len(window)
-    prints = printed_lines(dots, width, height, top)
-    rows = [enlarged(a, scale) + b"\xff" * (3 * GAP) + enlarged(b, scale) for a, b in zip(window, prints)]
-    pixels = b"".join(row * scale for row in rows)
-    with open(sys.argv[6], "wb") as file:
-        file.write(png(2 * width * scale + GAP, height * scale, pixels))
+def main(words):
+    scale, left, right, top, bottom = (number(word, 1 if place == 0 else 0) for place, word in enumerate(words[:5]))
+    page, sheet = read_page(words[6]), read_picture(words[7])
+    box = left, top, page.width - right, page.height - bottom
+    if box[0] >= box[2] or box[1] >= box[3]:
+        raise Refused("the margins leave nothing of the page")
+    if sheet.size != page.size:
+        raise Refused(f"{words[7]}: it is not of the size of the page")
+    window, prints = (enlarged(picture.crop(box), scale) for picture in (page, sheet))
+    paper = Image.new("RGB", (2 * window.width + GAP, window.height), "white")
+    paper.paste(window, (0, 0))
+    paper.paste(prints, (window.width + GAP, 0))
+    paper.save(words[5], "PNG", optimize=True)
 
 
 if __name__ == "__main__":
-    main()
+    run(main, __doc__, lambda count: count == 8)

@@ -6,7 +6,7 @@
 At the left is a page with its margins. Beside it the same page is printed on two printers, whose heads have their zero at
 different places. The head stands where it is in its first pass: at its zero, its last nozzle on the window's first row.
 """
-import sys
+from figure import run
 
 INK, PAPER, WINDOW, LINE, TEXT, ZERO = "#1f2933", "#ffffff", "#fdf6e3", "#9aa5b1", "#52606d", "#c0392b"
 WIDTH, HEIGHT = 170, 230  # a page
@@ -97,6 +97,4 @@ def draw():
 
 
 if __name__ == "__main__":
-    if len(sys.argv) != 1:
-        sys.exit(__doc__)
-    print(draw())
+    run(lambda _: print(draw()), __doc__, lambda count: count == 0)

@@ -8,15 +8,24 @@ COLUMNS and ROWS are those of the window. The jobs are of one ink and begin with
 of its listing, which `list` writes: where each raster begins, how many rows it has, and how far the head goes down. The
 dots of the rows are read from the job at these places.
 """
-import sys
-
-from page import read_row
+from figure import Refused, number, run
 
 # bytes of a raster before its rows
 HEADER = 8
 
 DOT, GAP, BETWEEN, LEFT, TOP = 8, 12, 40, 60, 40
 INK, PAPER, LINE, TEXT = "#1f2933", "#fdf6e3", "#d0c8b0", "#52606d"
+
+
+def read_row(job, at, size):
+    """A coded row of so many bytes, and where the next one begins."""
+    row = bytearray()
+    while len(row) < size:
+        control = job[at]
+        count = 1 + control if control < 128 else 1
+        row += job[at + 1:at + 1 + count] * (1 if control < 128 else 257 - control)
+        at += 1 + count
+    return row, at
 
 
 def strokes(job, listing):
@@ -46,7 +55,7 @@ def stroke(job, at, numbers, y):
 
 def shifted(found):
     """The strokes with the first row that has a dot as row 0."""
-    first = min(y for dots in found for _, y in dots)
+    first = min((y for dots in found for _, y in dots), default=0)
     return [[(x, y - first) for x, y in dots] for dots in found]
 
 
@@ -66,9 +75,9 @@ def panel(left, dots, columns, rows):
 def draw(columns, rows, jobs):
     left, out = LEFT, [text(LEFT - 8, TOP - 8, "end", "stroke")]
     out += [text(LEFT - 8, TOP + row * DOT + 8, "end", f"row {row}") for row in range(0, rows, 2)]
-    for job, listing in jobs:
-        for number, dots in enumerate(strokes(job, listing)):
-            out.append(text(left + columns * DOT // 2, TOP - 8, "middle", number))
+    for fired in jobs:
+        for place, dots in enumerate(fired):
+            out.append(text(left + columns * DOT // 2, TOP - 8, "middle", place))
             out += panel(left, dots, columns, rows)
             left += columns * DOT + GAP
         left += BETWEEN
@@ -78,15 +87,22 @@ def draw(columns, rows, jobs):
                       '<rect width="100%" height="100%" fill="white"/>', *out, "</svg>"])
 
 
+def read_strokes(name, listed):
+    """The strokes of a job and its listing."""
+    with open(name, "rb") as job, open(listed, errors="replace") as listing:
+        try:
+            found = strokes(job.read(), listing.readlines())
+        except (IndexError, ValueError):
+            found = []
+    if not found:
+        raise Refused(f"{listed}: no listing of {name}")
+    return found
+
+
 def main(words):
-    jobs = []
-    for name, listed in zip(words[2::2], words[3::2]):
-        with open(name, "rb") as job, open(listed) as listing:
-            jobs.append((job.read(), listing.readlines()))
-    print(draw(int(words[0]), int(words[1]), jobs))
+    columns, rows = (number(word, 1) for word in words[:2])
+    print(draw(columns, rows, [read_strokes(*pair) for pair in zip(words[2::2], words[3::2])]))
 
 
 if __name__ == "__main__":
-    if len(sys.argv) < 5 or len(sys.argv) % 2 == 0:
-        sys.exit(__doc__)
-    main(sys.argv[1:])
+    run(main, __doc__, lambda count: count >= 4 and count % 2 == 0)

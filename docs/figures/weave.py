@@ -6,7 +6,7 @@
 Each column of the picture is a pass of the head across the page, each row of it a row of dots. A circle is a nozzle: it
 is filled where it stands on a row of the window and fires it, and open where it stands above or below the window.
 """
-import sys
+from figure import number as count_of, run
 
 PASS, LEFT, TOP = 26, 74, 40
 INK, PAPER, LINE, TEXT = "#1f2933", "#fdf6e3", "#d0c8b0", "#52606d"
@@ -67,6 +67,4 @@ def draw(nozzles, pitch, rows):
 
 
 if __name__ == "__main__":
-    if len(sys.argv) != 4:
-        sys.exit(__doc__)
-    print(draw(*(int(word) for word in sys.argv[1:])))
+    run(lambda words: print(draw(*(count_of(word, 1) for word in words))), __doc__, lambda count: count == 3)
