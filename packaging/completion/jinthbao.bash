@@ -47,10 +47,17 @@ _jinthbao_words() {
     done
 }
 
+# _jinthbao_causes PROGRAM: the causes that its help lists at its end
+_jinthbao_causes() {
+    "$1" --help 2>/dev/null | sed '1,/--help CAUSE/d' | grep -oE '[A-Z][A-Za-z]+' | sort -u
+}
+
 _jinthbao() {
     COMPREPLY=()
     if ((COMP_CWORD == 1)); then
         COMPREPLY=($(compgen -W "print dots list profile trial --help --version" -- "${COMP_WORDS[1]}"))
+    elif [[ ${COMP_WORDS[1]} == --help ]]; then
+        ((COMP_CWORD > 2)) || COMPREPLY=($(compgen -W "$(_jinthbao_causes "$1")" -- "${COMP_WORDS[2]}"))
     else
         _jinthbao_words "${COMP_WORDS[1]}"
     fi
