@@ -12,8 +12,8 @@ use Rattle.crossbeam_queue.specs.Fifo.{Pushes, Pops, Forks, Merges, Learns}
 use Rattle.crossbeam_queue.proofs.Lists.{at_set}
 use Rattle.spool_queue.specs.declared.job.SpoolJob.{SpoolJob}
 use Rattle.spool_queue.specs.declared.rule.QueueView.{QueueView}
-use Rattle.spool_queue.specs.Jobs.{Stream, jobs_of, numbered, sent_by, count_sent}
-use Rattle.spool_queue.specs.Rule.{printer_view, sender_view, spent_view, FitsSender, FitsPrinter, HasEnded, FollowsRule, IsNext, IsSettled}
+use Rattle.spool_queue.specs.Jobs.{AreSent, Stream, jobs_of, numbered, sent_by, count_sent}
+use Rattle.spool_queue.specs.Rule.{printer_view, sender_view, spent_view, FitsSender, FitsPrinter, HasEnded, FollowsRule, IsAsSent, IsNext, IsSettled}
 use Rattle.spool_queue.proofs.Lists.{jobs_of-append, jobs_of_here, jobs_of_else, numbered_snoc, not_empty, next_number, put, put_here, put_else, at_last_or}
 use Rattle.spool_queue.proofs.Sums.{length_sent}
 
@@ -213,4 +213,17 @@ ends pass v other u may is items views h at apart at' =
       each = h.each;
       senders = after_set (FitsSender seat h.sent) vs other spent_view (λ p. absurd (true≢false (sym p))) (λ j y not_other e. first_senders j y e not_other);
       printers = after_set (Printers seat h.sent h.taken h.reader) vs other spent_view (λ p. absurd (true≢false (sym p))) (λ j y not_other e. first_printers j y e not_other);
+    }
+
+-- ---- between any two moves
+pub as_sent : (items : List SpoolJob) (views : List QueueView) (pass : ℕ) (printer : QueueView) → FollowsRule items views
+    → get_elem? views pass ≡ some printer → printer.prints ≡ true → IsAsSent items views printer
+as_sent items views pass printer h at may =
+    let f = h.printers pass printer at may in record {
+      sent = h.sent;
+      each = subst (λ taken. AreSent h.sent (taken ++ items)) (sym f.taken_is) h.each;
+      senders = λ p v e sends. sym (h.senders p v e sends).1;
+      ended = λ k lt. (f.ended k lt).1;
+      nobody = f.nobody.1;
+      later = λ s lt. (f.later s lt).1;
     }

@@ -56,6 +56,16 @@ pub record FollowsRule (items : List SpoolJob) (views : List QueueView) : Type 0
   pub printers : (pass : ℕ) (v : QueueView) → get_elem? views pass ≡ some v → v.prints ≡ true
       → FitsPrinter seat sent taken reader pass v
 
+-- The jobs that the printer's pass has taken, and then those in the queue, are what was sent: of a sender with a pass
+-- what that pass has sent, and of each sender whose pass is spent what that had sent; no other number has sent any.
+pub record IsAsSent (items : List SpoolJob) (views : List QueueView) (printer : QueueView) : Type 0 where
+  pub sent : ℕ → List Stream
+  pub each : AreSent sent (printer.taken ++ items)
+  pub senders : (pass : ℕ) (v : QueueView) → get_elem? views pass ≡ some v → v.sends ≡ true → sent v.sender ≡ v.sent
+  pub ended : (k : ℕ) → k < length printer.ended → sent (suc k) ≡ slice_index_or printer.ended k []
+  pub nobody : sent 0 ≡ []
+  pub later : (s : ℕ) → printer.senders < s → sent s ≡ []
+
 -- the job is of a sender of the spool, and the next of its jobs
 abbrev pub IsNext : QueueView → SpoolJob → Type 0
 IsNext v x = (x.number ≡ suc (length (jobs_of x.sender v.taken))) × (1 ≤ x.sender) × (x.sender ≤ v.senders)

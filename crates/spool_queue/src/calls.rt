@@ -12,6 +12,13 @@ use std::sync::Wait;
 use std::thread::yield_now;
 
 impl SendPass {
+    /// The sender, from 1 on in the order in which `make` gave the passes.
+    pub fn sender(&self) -> u8
+        ensures { result ≡ sender_of self.now }
+    {
+        self.sender
+    }
+
     /// How many streams the pass has sent.
     pub fn sent(&self) -> u32
         ensures { result ≡ length (sent_of self.now) }

@@ -1,8 +1,38 @@
-//! What follows where jobs are those that were sent (`AreSent`): the functions do nothing; their contracts are the
-//! laws.
+//! The rule of the spool, and what follows where jobs are those that were sent (`AreSent`): the functions do nothing;
+//! their contracts are the laws.
+ghost use Rattle.crossbeam_queue.specs.Fifo.{Forks, Merges, Pops, Pushes};
 ghost use Rattle.spool_queue.specs.Jobs.{AreSent, Stream, job};
+ghost use Rattle.spool_queue.specs.Rule.{FollowsRule, IsAsSent, IsNext, printer_view, sender_view, spent_view};
 ghost use Rattle.spool_queue.specs.declared.job.SpoolJob.{SpoolJob};
-ghost use Rattle.std.specs.Prelude.{Contains, List, [], length, slice_index_or, suc, ℕ, ◌++◌, ◌-◌, ◌<◌, ◌≡◌, ◌≤◌, ◌∷◌};
+ghost use Rattle.spool_queue.specs.declared.rule.QueueView.{QueueView};
+ghost use Rattle.std.specs.Prelude.{Contains, List, [], length, slice_index_or, suc, true, ℕ, ◌++◌, ◌-◌, ◌<◌, ◌≡◌, ◌≤◌, ◌∷◌};
+ghost use lib.ListN.{get_elem?};
+ghost use mathlib.Core.Option.{some};
+
+/// The rule holds of a new queue, and each step of a pass keeps it, whichever pass makes the step: a sender gets its
+/// pass, a sender pushes its next job, the printer takes a job, and the printer is given the pass of a sender that
+/// ends. So the rule holds between any two steps, in every order of the threads.
+pub fn each_step_keeps_the_rule()
+    ensures first { FollowsRule [] (printer_view 0 [] [] ∷ []) }
+    ensures enrols { (pass : ℕ) (v : QueueView) → v.prints ≡ true
+        → Forks FollowsRule pass v (printer_view (suc v.senders) v.taken v.ended) (sender_view (suc v.senders) []) }
+    ensures sends { (n pass : ℕ) (v : QueueView) (x : SpoolJob) → v.sends ≡ true → x.sender ≡ v.sender
+        → x.number ≡ suc (length v.sent)
+        → Pushes FollowsRule n pass v x (λ w. w ≡ sender_view v.sender (v.sent ++ x.stream ∷ [])) }
+    ensures takes { (pass : ℕ) (v : QueueView) → v.prints ≡ true
+        → Pops FollowsRule pass v
+        (λ x w. (w ≡ printer_view v.senders (v.taken ++ x ∷ []) v.ended) × IsNext v x) }
+    ensures ends { (pass : ℕ) (v : QueueView) (other : ℕ) (u : QueueView) → v.prints ≡ true
+        → u ≡ sender_view (suc (length v.ended)) u.sent
+        → Merges FollowsRule pass v other u (printer_view v.senders v.taken (v.ended ++ u.sent ∷ [])) spent_view }
+{}
+
+/// Where the rule holds, the jobs that the printer has taken, and then those in the queue, are what the senders sent.
+pub fn jobs_are_as_sent_between_steps()
+    ensures { (items : List SpoolJob) (views : List QueueView) (pass : ℕ) (printer : QueueView)
+        → FollowsRule items views → get_elem? views pass ≡ some printer → printer.prints ≡ true
+        → IsAsSent items views printer }
+{}
 
 /// A job is the one that its sender sent under its number.
 pub fn each_job_was_sent()
