@@ -5,7 +5,7 @@ use Rattle.std.proofs.lemmas.List.{get_or_default, length-take-le, map_push, tak
 use Rattle.driver_core.specs.Outside.{Texts}
 use Rattle.weave_base.specs.Causes.{Rose}
 use Rattle.weave_base.specs.Shelf.{NamedText}
-use Rattle.spool_core.specs.Files.{AreFiles, FilesOutcome, HasStreams, IsFile, IsRefusedFile, IsRefusedName, RefusesFile}
+use Rattle.spool_core.specs.Files.{AreFiles, FilesOutcome, HasStreams, IsFile, IsNextFile, IsNextName, IsRefusedFile, IsRefusedName, RefusesFile}
 use Rattle.spool_core.specs.Files.{StopsAtFile, StopsAtName, bytes_in, joined}
 use Rattle.spool_core.specs.declared.answer.SpoolAnswer.{SpoolAnswer}
 use Rattle.spool_core.specs.declared.answer.SpoolAnswer.TheVariants as answer
@@ -44,29 +44,48 @@ one_more told before taken names i j list name stream has is got same file =
     (has_streams-append told before (take i names) list (name ∷ []) (stream ∷ []) has
     (subst (λ n. IsFile told n name stream) is file, tt))
 
+-- the file of a sender that is read next
+next_name : (told : Option (List NamedText)) (before : ℕ) (names : List (List ℕ)) (i n : ℕ) (list : List (List ℕ)) (name : List ℕ)
+    → HasStreams told before (take i names) list → slice_get names i ≡ Some name → n ≡ i + 1
+    → (at : IsNextName told before names n) × (at.streams ≡ list) × (at.name ≡ name)
+next_name told before names i n list name has got counted =
+    let at = read_at names i name got in
+    let front = length-take-le i names (omega (arith, at.0)) in (
+      record {
+        first = take i names;
+        name = name;
+        later = drop (i + 1) names;
+        names_are = cut_at names i name at.0 at.1;
+        job_is = omega arith;
+        streams = list;
+        earlier = has;
+      },
+      refl,
+      refl,
+    )
+
 -- a file of a sender is not read
 pub stops_at_name : (shelf last : Texts) (before taken : ℕ) (names : List (List ℕ)) (i j sender number : ℕ) (list : List (List ℕ)) (name : List ℕ)
     (a : SpoolAnswer) → last.told ≡ shelf.told → shelf.faults_before ≤ last.faults_before → last.faults_now ≡ shelf.faults_now
     → HasStreams shelf.told before (take i names) list → taken ≡ before + bytes_in list → slice_get names j ≡ Some name → j ≡ i
     → number ≡ i + 1 → StopsAtFile last taken name sender number a → StopsAtName shelf before names sender a
 stops_at_name shelf last before taken names i j sender number list name (answer.File s n cause) told later now has is got same counted stops =
-    let at = read_at names i name (subst (λ m. slice_get names m ≡ Some name) same got) in
-    let front = length-take-le i names (omega (arith, at.0)) in
+    let at = next_name shelf.told before names i n list name has (subst (λ m. slice_get names m ≡ Some name) same got) (stops.1 ∙ counted) in
     let refused = subst (λ t. RefusesFile t taken name cause) told stops.2 in (
       stops.0,
       record {
-        first = take i names;
-        name = name;
-        later = drop (i + 1) names;
-        names_are = cut_at names i name at.0 at.1;
-        job_is = let e = stops.1 in omega arith;
-        streams = list;
-        earlier = has;
-        refused = subst (λ m. RefusesFile shelf.told m name cause) is refused;
+        place = at.0;
+        refused = subst (λ ss. RefusesFile shelf.told (before + bytes_in ss) at.0.name cause) (sym at.1)
+            (subst (λ m. RefusesFile shelf.told (before + bytes_in list) m cause) (sym at.2)
+            (subst (λ m. RefusesFile shelf.told m name cause) is refused));
       },
     )
-stops_at_name shelf last before taken names i j sender number list name answer.Read told later now has is got same counted stops =
-    rose_later later (subst (λ n. Rose last.faults_before n) now stops)
+stops_at_name shelf last before taken names i j sender number list name (answer.ReadFile s n) told later now has is got same counted stops = (
+  stops.0,
+  (next_name shelf.told before names i n list name has (subst (λ m. slice_get names m ≡ Some name) same got) (stops.1 ∙ counted)).0,
+  rose_later later (subst (λ n. Rose last.faults_before n) now stops.2),
+)
+stops_at_name shelf last before taken names i j sender number list name answer.Read told later now has is got same counted stops = absurd stops
 stops_at_name shelf last before taken names i j sender number list name answer.Memory told later now has is got same counted stops = tt
 stops_at_name shelf last before taken names i j sender number list name answer.Done told later now has is got same counted stops = absurd stops
 stops_at_name shelf last before taken names i j sender number list name (answer.Usage fault) told later now has is got same counted stops = absurd stops
@@ -115,33 +134,52 @@ all_read told names lists i taken le so_far =
       streams = subst (λ ns. HasStreams told 0 (joined ns) (joined lists)) whole so_far.streams;
     }
 
+-- the file that is read next, of all senders
+next_file : (told : Option (List NamedText)) (names lists : List (List (List ℕ))) (i j taken s n sender : ℕ) → i < length names → j ≡ i
+    → s ≡ sender → sender ≡ i + 1 → ReadSoFar told names lists i taken → (of : IsNextName told taken (get_or names j []) n)
+    → (at : IsNextFile told names s n) × (bytes_in at.streams ≡ taken + bytes_in of.streams) × (at.name ≡ of.name)
+next_file told names lists i j taken s n sender lt same who counted so_far of =
+    let here = get_or names i [] in
+    let names_are : here ≡ of.first ++ of.name ∷ of.later = subst (λ m. get_or names m [] ≡ of.first ++ of.name ∷ of.later) same of.names_are in
+    let front = length-take-le i names (omega arith) in
+    let sum = bytes_in-append (joined lists) of.streams in
+    let e = so_far.taken_is in (
+      record {
+        before = take i names;
+        first = of.first;
+        name = of.name;
+        later = of.later;
+        after = drop (i + 1) names;
+        names_are = subst (λ (l : List (List ℕ)). names ≡ take i names ++ l ∷ drop (i + 1) names) names_are (cut_at names i here lt (get_or_default names i [] here lt));
+        sender_is = omega arith;
+        job_is = of.job_is;
+        streams = joined lists ++ of.streams;
+        earlier = has_streams-append told 0 (joined (take i names)) (joined lists) of.first of.streams so_far.streams
+            (subst (λ m. HasStreams told m of.first of.streams) (omega arith) of.earlier);
+      },
+      omega arith,
+      refl,
+    )
+
 -- not all files of a sender are read
 pub stops_at_sender : (shelf last : Texts) (names lists : List (List (List ℕ))) (i j taken sender : ℕ) (a : SpoolAnswer)
     → last.told ≡ shelf.told → shelf.faults_before ≤ last.faults_before → last.faults_now ≡ shelf.faults_now
     → i < length names → j ≡ i → sender ≡ i + 1 → ReadSoFar shelf.told names lists i taken
     → StopsAtName last taken (get_or names j []) sender a → FilesOutcome names shelf a
 stops_at_sender shelf last names lists i j taken sender (answer.File s n cause) told later now lt same counted so_far stops =
-    let here = get_or names i [] in
-    let refused : IsRefusedName shelf.told taken here n cause =
-    subst (λ m. IsRefusedName shelf.told taken (get_or names m []) n cause) same (subst (λ t. IsRefusedName t taken (get_or names j []) n cause) told stops.1) in
-    let front = length-take-le i names (omega arith) in
-    let sum = bytes_in-append (joined lists) refused.streams in
+    let refused : IsRefusedName shelf.told taken (get_or names j []) n cause = subst (λ t. IsRefusedName t taken (get_or names j []) n cause) told stops.1 in
+    let at = next_file shelf.told names lists i j taken s n sender lt same stops.0 counted so_far refused.place in
     record {
-      before = take i names;
-      first = refused.first;
-      name = refused.name;
-      later = refused.later;
-      after = drop (i + 1) names;
-      names_are = subst (λ (l : List (List ℕ)). names ≡ take i names ++ l ∷ drop (i + 1) names) refused.names_are (cut_at names i here lt (get_or_default names i [] here lt));
-      sender_is = let e = stops.0 in omega arith;
-      job_is = refused.job_is;
-      streams = joined lists ++ refused.streams;
-      earlier = has_streams-append shelf.told 0 (joined (take i names)) (joined lists) refused.first refused.streams so_far.streams
-          (subst (λ m. HasStreams shelf.told m refused.first refused.streams) (let e = so_far.taken_is in omega arith) refused.earlier);
-      refused = subst (λ m. RefusesFile shelf.told m refused.name cause) (let e = so_far.taken_is in omega arith) refused.refused;
+      place = at.0;
+      refused = subst (λ m. RefusesFile shelf.told m at.0.name cause) (sym at.1)
+          (subst (λ m. RefusesFile shelf.told (taken + bytes_in refused.place.streams) m cause) (sym at.2) refused.refused);
     }
-stops_at_sender shelf last names lists i j taken sender answer.Read told later now lt same counted so_far stops =
-    rose_later later (subst (λ n. Rose last.faults_before n) now stops)
+stops_at_sender shelf last names lists i j taken sender (answer.ReadFile s n) told later now lt same counted so_far stops =
+    let place : IsNextName shelf.told taken (get_or names j []) n = subst (λ t. IsNextName t taken (get_or names j []) n) told stops.1 in (
+      (next_file shelf.told names lists i j taken s n sender lt same stops.0 counted so_far place).0,
+      rose_later later (subst (λ n. Rose last.faults_before n) now stops.2),
+    )
+stops_at_sender shelf last names lists i j taken sender answer.Read told later now lt same counted so_far stops = absurd stops
 stops_at_sender shelf last names lists i j taken sender answer.Memory told later now lt same counted so_far stops = tt
 stops_at_sender shelf last names lists i j taken sender answer.Done told later now lt same counted so_far stops = absurd stops
 stops_at_sender shelf last names lists i j taken sender (answer.Usage fault) told later now lt same counted so_far stops = absurd stops
@@ -153,7 +191,9 @@ stops_at_sender shelf last names lists i j taken sender (answer.Failed count) to
 pub later_files : (names : List (List (List ℕ))) (shelf last : Texts) (a : SpoolAnswer) → last.told ≡ shelf.told
     → shelf.faults_before ≤ last.faults_before → last.faults_now ≡ shelf.faults_now → FilesOutcome names last a → FilesOutcome names shelf a
 later_files names shelf last (answer.File s n cause) told later now stops = subst (λ t. IsRefusedFile t names s n cause) told stops
-later_files names shelf last answer.Read told later now stops = rose_later later (subst (λ n. Rose last.faults_before n) now stops)
+later_files names shelf last (answer.ReadFile s n) told later now stops =
+    (subst (λ t. IsNextFile t names s n) told stops.0, rose_later later (subst (λ n. Rose last.faults_before n) now stops.1))
+later_files names shelf last answer.Read told later now stops = absurd stops
 later_files names shelf last answer.Memory told later now stops = tt
 later_files names shelf last answer.Done told later now stops = absurd stops
 later_files names shelf last (answer.Usage fault) told later now stops = absurd stops

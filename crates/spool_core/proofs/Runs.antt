@@ -46,6 +46,7 @@ all_ran p k sent jobs out meters done (answer.Usage fault) are prints fine sums 
 all_ran p k sent jobs out meters done (answer.Profile line cause) are prints fine sums = absurd sums
 all_ran p k sent jobs out meters done (answer.File sender job cause) are prints fine sums = absurd sums
 all_ran p k sent jobs out meters done answer.Read are prints fine sums = absurd sums
+all_ran p k sent jobs out meters done (answer.ReadFile sender job) are prints fine sums = absurd sums
 all_ran p k sent jobs out meters done (answer.Write sender job page) are prints fine sums = absurd sums
 
 -- a write failed
@@ -62,6 +63,7 @@ not_all_ran p k sent jobs rest out meters done (answer.Usage fault) are prints r
 not_all_ran p k sent jobs rest out meters done (answer.Profile line cause) are prints risen stops = absurd stops
 not_all_ran p k sent jobs rest out meters done (answer.File sender job cause) are prints risen stops = absurd stops
 not_all_ran p k sent jobs rest out meters done answer.Read are prints risen stops = absurd stops
+not_all_ran p k sent jobs rest out meters done (answer.ReadFile sender job) are prints risen stops = absurd stops
 
 -- a word is refused
 pub refused_word : (words : List (List ℕ)) (o : SpoolOutside) (done : List Ran) (fault : SpoolFault) → Err fault ≡ spool_meaning words

@@ -93,17 +93,18 @@ module _ (told : Option (List NamedText)) (files : List NamedText) (is : told �
   none_refused : (names sent : List (List (List ℕ))) (sender job : ℕ) (c : FileCause) → AreFiles told names sent
       → IsRefusedFile told names sender job c → ⊥
   none_refused names sent sender job c are refused =
-      let front : List (List ℕ) = joined refused.before ++ refused.first in
-      let back : List (List ℕ) = refused.later ++ joined refused.after in
-      let whole : joined names ≡ front ++ refused.name ∷ back =
-      ap joined refused.names_are
-      ∙ flat_map-append (λ (l : List (List ℕ)). l) refused.before ((refused.first ++ refused.name ∷ refused.later) ∷ refused.after)
-      ∙ ap (λ l. joined refused.before ++ l) (append_assoc refused.first (refused.name ∷ refused.later) (joined refused.after))
-      ∙ sym (append_assoc (joined refused.before) refused.first (refused.name ∷ back)) in
-      let next = next_file 0 front back (joined sent) refused.streams refused.name
-      (subst (λ ns. HasStreams told 0 ns (joined sent)) whole are.streams) refused.earlier in
-      let there : IsFile told (bytes_in refused.streams) refused.name next.0 = subst (λ n. IsFile told n refused.name next.0) (omega arith) next.1 in
-      not_refused (bytes_in refused.streams) refused.name next.0 c there refused.refused
+      let at = refused.place in
+      let front : List (List ℕ) = joined at.before ++ at.first in
+      let back : List (List ℕ) = at.later ++ joined at.after in
+      let whole : joined names ≡ front ++ at.name ∷ back =
+      ap joined at.names_are
+      ∙ flat_map-append (λ (l : List (List ℕ)). l) at.before ((at.first ++ at.name ∷ at.later) ∷ at.after)
+      ∙ ap (λ l. joined at.before ++ l) (append_assoc at.first (at.name ∷ at.later) (joined at.after))
+      ∙ sym (append_assoc (joined at.before) at.first (at.name ∷ back)) in
+      let next = next_file 0 front back (joined sent) at.streams at.name
+      (subst (λ ns. HasStreams told 0 ns (joined sent)) whole are.streams) at.earlier in
+      let there : IsFile told (bytes_in at.streams) at.name next.0 = subst (λ n. IsFile told n at.name next.0) (omega arith) next.1 in
+      not_refused (bytes_in at.streams) at.name next.0 c there refused.refused
 
 -- ---- every job's stream is valid
 
@@ -176,12 +177,14 @@ module _ (words : List (List ℕ)) (o : SpoolOutside) (done : List Ran) (valid :
   by_profile answer.Done h = absurd h
   by_profile (answer.Usage fault) h = absurd h
   by_profile (answer.File sender job why) h = absurd h
+  by_profile (answer.ReadFile sender job) h = absurd h
   by_profile (answer.Write sender job page) h = absurd h
   by_profile (answer.Failed count) h = absurd h
 
   by_files : (a : SpoolAnswer) → FilesOutcome (names_of words) o.shelf a → IsFine a
   by_files (answer.File sender job why) h = absurd (none_refused o.shelf.told files is (names_of words) valid.sent sender job why valid.files h)
-  by_files answer.Read h = absurd (calm h)
+  by_files answer.Read h = absurd h
+  by_files (answer.ReadFile sender job) h = absurd (calm h.1)
   by_files answer.Memory h = inr refl
   by_files answer.Done h = absurd h
   by_files (answer.Usage fault) h = absurd h
@@ -208,6 +211,7 @@ module _ (words : List (List ℕ)) (o : SpoolOutside) (done : List Ran) (valid :
   by_printing p k sent (answer.Profile line why) same kernel are h = absurd h
   by_printing p k sent (answer.File sender job why) same kernel are h = absurd h
   by_printing p k sent answer.Read same kernel are h = absurd h
+  by_printing p k sent (answer.ReadFile sender job) same kernel are h = absurd h
 
   pub valid_run : (a : SpoolAnswer) → SpoolOutcome words o done a → IsFine a
   valid_run a outcome =
@@ -234,11 +238,10 @@ roomy_jobs {done} o q p l k streams sent same kernel order every jobs plain room
 
 -- what a run promises, by its answer
 pub promised : {words : List (List ℕ)} {o : SpoolOutside} {err : Outside} {status : ℕ} {done : List Ran} (a : SpoolAnswer) → SpoolOutcome words o done a
-    → status ≡ spool_status a → Tells err (spool_text done a) → SpoolPromises words o err status done
+    → status ≡ spool_status a → Tells err (spool_text done a) → SpoolPromises words o err status a done
 promised {words} {o} {err} {status} {done} a outcome is told =
     let P : ℕ → Type 0 = λ s. (s ≡ 0) ⊎ (s ≡ 7) in
     record {
-      answer = a;
       outcome = outcome;
       status_is = is;
       told = told;

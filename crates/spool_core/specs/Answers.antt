@@ -21,6 +21,7 @@ spool_status (answer.Usage fault) = 1
 spool_status (answer.Profile line cause) = 2
 spool_status (answer.File sender job cause) = 3
 spool_status answer.Read = 4
+spool_status (answer.ReadFile sender job) = 4
 spool_status (answer.Write sender job page) = 5
 spool_status answer.Memory = 7
 spool_status (answer.Failed count) = 9
@@ -45,6 +46,7 @@ spool_line (answer.Profile line cause) = line_of (print.Profile line cause)
 spool_line (answer.File sender job cause) =
     codes "file: sender " ++ decimal sender ++ codes " job " ++ decimal job ++ codes ": " ++ file_name cause ++ codes "\n"
 spool_line answer.Read = line_of print.Read
+spool_line (answer.ReadFile sender job) = line_of print.Read
 spool_line (answer.Write sender job page) =
     codes "write failed: sender " ++ decimal sender ++ codes " job " ++ decimal job ++ codes " page " ++ decimal page ++ codes "\n"
 spool_line answer.Memory = line_of print.Memory

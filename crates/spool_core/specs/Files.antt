@@ -53,8 +53,9 @@ RefusesFile told taken name cause.Absent = IfSome told (λ files. text_named nam
 RefusesFile told taken name cause.TooLong =
     IfSome told (λ files. (stream : List ℕ) × (text_named name files ≡ Some stream) × (most_next taken < length stream))
 
--- Job `job` of sender `sender` is the first whose file is refused.
-pub record IsRefusedFile (told : Option (List NamedText)) (names : List (List (List ℕ))) (sender job : ℕ) (cause : FileCause) : Type 0 where
+-- The files of all jobs before job `job` of sender `sender` were read, one after another, and have these streams; the
+-- next is the file of this name.
+pub record IsNextFile (told : Option (List NamedText)) (names : List (List (List ℕ))) (sender job : ℕ) : Type 0 where
   pub before : List (List (List ℕ))
   pub first : List (List ℕ)
   pub name : List ℕ
@@ -65,19 +66,22 @@ pub record IsRefusedFile (told : Option (List NamedText)) (names : List (List (L
   pub job_is : job ≡ length first + 1
   pub streams : List (List ℕ)
   pub earlier : HasStreams told 0 (joined before ++ first) streams
-  pub refused : RefusesFile told (bytes_in streams) name cause
+
+-- Job `job` of sender `sender` is the first whose file is refused.
+pub record IsRefusedFile (told : Option (List NamedText)) (names : List (List (List ℕ))) (sender job : ℕ) (cause : FileCause) : Type 0 where
+  pub place : IsNextFile told names sender job
+  pub refused : RefusesFile told (bytes_in place.streams) place.name cause
 
 -- why the file of this job is not read, and the answer
 abbrev pub StopsAtFile : Texts → ℕ → List ℕ → ℕ → ℕ → SpoolAnswer → Type 0
 StopsAtFile shelf taken name sender job (answer.File s n cause) =
     (s ≡ sender) × (n ≡ job) × RefusesFile shelf.told taken name cause
-StopsAtFile shelf taken name sender job answer.Read = HasFailed shelf
+StopsAtFile shelf taken name sender job (answer.ReadFile s n) = (s ≡ sender) × (n ≡ job) × HasFailed shelf
 StopsAtFile shelf taken name sender job answer.Memory = Unit {0}
 StopsAtFile shelf taken name sender job other = ⊥
 
--- Job `job` of a sender with these names is the first of its files that is refused; files of so many bytes were read
--- before those of the sender.
-pub record IsRefusedName (told : Option (List NamedText)) (taken : ℕ) (names : List (List ℕ)) (job : ℕ) (cause : FileCause) : Type 0 where
+-- The same of job `job` of a sender with these names; files of so many bytes were read before those of the sender.
+pub record IsNextName (told : Option (List NamedText)) (taken : ℕ) (names : List (List ℕ)) (job : ℕ) : Type 0 where
   pub first : List (List ℕ)
   pub name : List ℕ
   pub later : List (List ℕ)
@@ -85,18 +89,23 @@ pub record IsRefusedName (told : Option (List NamedText)) (taken : ℕ) (names :
   pub job_is : job ≡ length first + 1
   pub streams : List (List ℕ)
   pub earlier : HasStreams told taken first streams
-  pub refused : RefusesFile told (taken + bytes_in streams) name cause
+
+-- Job `job` of a sender with these names is the first of its files that is refused.
+pub record IsRefusedName (told : Option (List NamedText)) (taken : ℕ) (names : List (List ℕ)) (job : ℕ) (cause : FileCause) : Type 0 where
+  pub place : IsNextName told taken names job
+  pub refused : RefusesFile told (taken + bytes_in place.streams) place.name cause
 
 -- why not all files of a sender are read, and the answer
 abbrev pub StopsAtName : Texts → ℕ → List (List ℕ) → ℕ → SpoolAnswer → Type 0
 StopsAtName shelf taken names sender (answer.File s job cause) = (s ≡ sender) × IsRefusedName shelf.told taken names job cause
-StopsAtName shelf taken names sender answer.Read = HasFailed shelf
+StopsAtName shelf taken names sender (answer.ReadFile s job) =
+    (s ≡ sender) × IsNextName shelf.told taken names job × HasFailed shelf
 StopsAtName shelf taken names sender answer.Memory = Unit {0}
 StopsAtName shelf taken names sender other = ⊥
 
 -- why not all files of all senders are read, and the answer
 abbrev pub FilesOutcome : List (List (List ℕ)) → Texts → SpoolAnswer → Type 0
 FilesOutcome names shelf (answer.File sender job cause) = IsRefusedFile shelf.told names sender job cause
-FilesOutcome names shelf answer.Read = HasFailed shelf
+FilesOutcome names shelf (answer.ReadFile sender job) = IsNextFile shelf.told names sender job × HasFailed shelf
 FilesOutcome names shelf answer.Memory = Unit {0}
 FilesOutcome names shelf other = ⊥

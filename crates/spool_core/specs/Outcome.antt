@@ -85,6 +85,7 @@ PrintingOutcome p k sent out meters done (answer.Usage fault) = ⊥
 PrintingOutcome p k sent out meters done (answer.Profile line cause) = ⊥
 PrintingOutcome p k sent out meters done (answer.File sender job cause) = ⊥
 PrintingOutcome p k sent out meters done answer.Read = ⊥
+PrintingOutcome p k sent out meters done (answer.ReadFile sender job) = ⊥
 
 -- why there is no profile of this name, and the answer
 abbrev pub ProfileOutcome : List ℕ → Texts → SpoolAnswer → Type 0

@@ -47,8 +47,8 @@ dots_of_streams p k (bytes ∷ streams) = stream_dots p k bytes + dots_of_stream
 abbrev pub HasRoomFor : ℕ → Account → Type 0
 HasRoomFor dots a = all_inks a.totals + dots ≤ a.cap
 
-pub record SpoolPromises (words : List (List ℕ)) (o : SpoolOutside) (err : Outside) (status : ℕ) (done : List Ran) : Type 0 where
-  pub answer : SpoolAnswer
+pub record SpoolPromises (words : List (List ℕ)) (o : SpoolOutside) (err : Outside) (status : ℕ) (answer : SpoolAnswer) (done : List Ran)
+    : Type 0 where
   -- what the answer means
   pub outcome : SpoolOutcome words o done answer
   pub status_is : status ≡ spool_status answer

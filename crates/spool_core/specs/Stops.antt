@@ -1,8 +1,6 @@
 -- The answers to a run that does not print.
 use Rattle.job_profile.specs.declared.stops.ProfileStop.{ProfileStop}
 use Rattle.job_profile.specs.declared.stops.ProfileStop.TheVariants as profile
-use Rattle.weave_base.specs.declared.shelf.ShelfStop.{ShelfStop}
-use Rattle.weave_base.specs.declared.shelf.ShelfStop.TheVariants as shelf
 use Rattle.spool_core.specs.declared.answer.SpoolAnswer.{SpoolAnswer}
 use Rattle.spool_core.specs.declared.answer.SpoolAnswer.TheVariants as answer
 
@@ -11,8 +9,3 @@ abbrev pub profile_answer : ProfileStop → SpoolAnswer
 profile_answer (profile.Refused line cause) = answer.Profile line cause
 profile_answer profile.Failed = answer.Read
 profile_answer profile.Memory = answer.Memory
-
--- the answer where the shelf gives no answer
-abbrev pub shelf_answer : ShelfStop → SpoolAnswer
-shelf_answer shelf.Failed = answer.Read
-shelf_answer shelf.Memory = answer.Memory

@@ -26,8 +26,13 @@ pub enum SpoolAnswer {
         job: u32,
         cause: FileCause,
     },
-    /// A read of the shelf failed.
+    /// The read of the profile failed.
     Read,
+    /// The read of this job's file failed, after the files of all jobs before it were read.
+    ReadFile {
+        sender: u8,
+        job: u32,
+    },
     /// A write failed, in this page of this job.
     Write {
         sender: u8,
@@ -114,7 +119,7 @@ impl SpoolAnswer {
             SpoolAnswer::Usage(_) => 1,
             SpoolAnswer::Profile { .. } => 2,
             SpoolAnswer::File { .. } => 3,
-            SpoolAnswer::Read => 4,
+            SpoolAnswer::Read | SpoolAnswer::ReadFile { .. } => 4,
             SpoolAnswer::Write { .. } => 5,
             SpoolAnswer::Memory => 7,
             SpoolAnswer::Failed { .. } => 9,
@@ -131,7 +136,7 @@ impl SpoolAnswer {
             SpoolAnswer::Usage(fault) => push_usage(fault.word, usage_name(fault.cause), out),
             SpoolAnswer::Profile { line, cause } => Answer::Profile { line, cause }.text(out),
             SpoolAnswer::File { sender, job, cause } => push_file(sender, job, cause, out),
-            SpoolAnswer::Read => Answer::Read.text(out),
+            SpoolAnswer::Read | SpoolAnswer::ReadFile { .. } => Answer::Read.text(out),
             SpoolAnswer::Write { sender, job, page } => push_write(sender, job, page, out),
             SpoolAnswer::Memory => Answer::Memory.text(out),
             SpoolAnswer::Failed { count } => push_failed(count, out),

@@ -9,7 +9,7 @@ use crate::answer::SpoolAnswer;
 use spool_queue::StreamBytes;
 use spool_words::{SpoolRequest, Words, name, name_count};
 use std::alloc::Global;
-use weave_base::{Found, Shelf};
+use weave_base::{Found, Shelf, ShelfStop};
 
 /// The most bytes of a file.
 pub const MOST_FILE: usize = 268_435_456;
@@ -56,18 +56,20 @@ fn read_file<F: Shelf>(
     ensures stay { F.files shelf.new ≡ F.files shelf.old }
 {
     let FilePlace { taken, sender, job } = place;
-    match shelf.read_text(alloc, name, most_next(taken))? {
-        Found::Text(bytes) => Ok(StreamBytes::new(bytes)),
-        Found::Absent => Err(SpoolAnswer::File {
+    match shelf.read_text(alloc, name, most_next(taken)) {
+        Ok(Found::Text(bytes)) => Ok(StreamBytes::new(bytes)),
+        Ok(Found::Absent) => Err(SpoolAnswer::File {
             sender,
             job,
             cause: FileCause::Absent,
         }),
-        Found::TooLong => Err(SpoolAnswer::File {
+        Ok(Found::TooLong) => Err(SpoolAnswer::File {
             sender,
             job,
             cause: FileCause::TooLong,
         }),
+        Err(ShelfStop::Failed) => Err(SpoolAnswer::ReadFile { sender, job }),
+        Err(ShelfStop::Memory) => Err(SpoolAnswer::Memory),
     }
 }
 
@@ -111,7 +113,7 @@ fn read_sender<F: Shelf>(
 
 /// Reads the files of all senders, in the order of senders and their names. Each has at most `MOST_FILE` bytes, and all
 /// together have at most `MOST_FILES`. `Err` is the answer of a run that goes no further: the first file that is
-/// refused, a failed read, or want of memory.
+/// refused or whose read fails, or want of memory.
 pub fn read_files<F: Shelf>(
     alloc: Global,
     words: &Words,

@@ -1,6 +1,6 @@
 //! A run of the spool: the files of several senders are printed on one printer, one job after another.
 //!
-//! `run_spool` promises `SpoolPromises`. There is an answer whose cause holds for what was read, written and counted
+//! `run_spool` promises `SpoolPromises`. The cause of the report's answer holds for what was read, written and counted
 //! (`outcome`); its status is returned; the error sink got a line for each job that ran and then that of the answer, or
 //! a proper prefix of these lines after a failed write (`told`); and a valid run, on a shelf that reports its files,
 //! ends with 0 or 7 where nothing outside fails and no page goes past a cap (`valid`), as none does where each meter
@@ -34,5 +34,4 @@ pub use answer::SpoolAnswer;
 pub use files::{FileCause, MOST_FILE, MOST_FILES};
 pub use report::{Ran, SpoolReport, tell};
 pub use running::run_spool;
-pub use senders::{Work, send_all, submit_all};
 pub use spool_words::{SpoolCause, SpoolFault};

@@ -21,10 +21,11 @@ pub struct Ran {
     pub status: u8,
 }
 
-/// What a run of the spool did: its exit status, and the jobs that ran, in their order.
+/// What a run of the spool did: its exit status, the answer whose status it is, and the jobs that ran, in their order.
 #[derive(Debug, Drop)]
 pub struct SpoolReport {
     pub status: u8,
+    pub answer: SpoolAnswer,
     pub done: Vec<Ran>,
 }
 

@@ -158,7 +158,7 @@ pub fn run_spool<R: Threads + Wait + Sync, K: Sink, E: Sink, F: Shelf, G: Gate +
           out = outside_of K.held K.faults out.old out.new;
           meters = meters_of (λ meter. account meter) meters.old.items meters.new.items;
         })
-        (outside_of E.held E.faults err.old err.new) result.status result.done.items }
+        (outside_of E.held E.faults err.old err.new) result.status result.answer result.done.items }
     // Nothing is read from the shelf where a word is refused.
     ensures refused_unasked { IsErr (spool_meaning words.now) → (shelf.new ≡ shelf.old) }
 {
@@ -166,6 +166,7 @@ pub fn run_spool<R: Threads + Wait + Sync, K: Sink, E: Sink, F: Shelf, G: Gate +
     tell(&done, &answer, err);
     SpoolReport {
         status: answer.status(),
+        answer,
         done,
     }
 }

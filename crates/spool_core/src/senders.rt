@@ -38,7 +38,7 @@ pub fn assign(
 }
 
 /// Submits all streams, in order.
-pub fn submit_all<R: Wait>(rt: &R, spool: &Spool, work: Work) -> SendPass
+pub(crate) fn submit_all<R: Wait>(rt: &R, spool: &Spool, work: Work) -> SendPass
     requires { CanSend spool.now work.pass work.streams.items }
     ensures { HasSent spool.now result (sender_of work.pass) work.streams.items }
 {
@@ -52,7 +52,7 @@ pub fn submit_all<R: Wait>(rt: &R, spool: &Spool, work: Work) -> SendPass
 /// Each sender submits all its streams, in a thread of its own where one can be started, and else in the caller's. It
 /// returns when all have.
 #[cycle(senders)]
-pub fn send_all<R: Threads + Wait + Sync>(
+pub(crate) fn send_all<R: Threads + Wait + Sync>(
     rt: &R,
     spool: &Spool,
     mut works: Vec<Work>,

@@ -5,7 +5,6 @@ ghost use Rattle.std.specs.Prelude.{◌≡◌};
 use crate::answer::SpoolAnswer;
 use job_profile::ProfileStop;
 use spool_words::SpoolFault;
-use weave_base::ShelfStop;
 
 impl From<SpoolFault> for SpoolAnswer {
     ghost from_gives = { λ fault a. a ≡ answer.Usage fault };
@@ -25,19 +24,6 @@ impl From<ProfileStop> for SpoolAnswer {
             ProfileStop::Refused { line, cause } => SpoolAnswer::Profile { line, cause },
             ProfileStop::Failed => SpoolAnswer::Read,
             ProfileStop::Memory => SpoolAnswer::Memory,
-        }
-    }
-}
-
-impl From<ShelfStop> for SpoolAnswer {
-    ghost use Rattle.spool_core.specs.Stops.{shelf_answer};
-
-    ghost from_gives = { λ stop a. a ≡ shelf_answer stop };
-
-    fn from(stop: ShelfStop) -> SpoolAnswer {
-        match stop {
-            ShelfStop::Failed => SpoolAnswer::Read,
-            ShelfStop::Memory => SpoolAnswer::Memory,
         }
     }
 }
