@@ -50,8 +50,13 @@ PIXELS = {
 INKS = {"k": "black", "c": "cyan", "m": "magenta", "y": "yellow"}
 HEADS = ("escp2-profile 1\n", "escp2-profile 2\n")
 
-KERNELS = [("fs", "Floyd and Steinberg"), ("jjn", "Jarvis, Judice and Ninke"), ("stucki", "Stucki")]
-QUALITIES = [("Normal", "Normal"), ("Draft", "Draft, by Floyd and Steinberg"), ("High", "High, by Stucki")]
+KERNELS = [("None", "By the Print Quality"), ("fs", "Floyd and Steinberg"), ("jjn", "Jarvis, Judice and Ninke"),
+           ("stucki", "Stucki")]
+# A quality: its name in a PPD, the text that users see, and its number in IPP. The first is the default.
+Quality = namedtuple("Quality", "name text number")
+QUALITIES = [
+    Quality("Normal", "Normal, by Jarvis, Judice and Ninke", 4), Quality("Draft", "Draft, by Floyd and Steinberg", 3),
+    Quality("High", "High, by Stucki", 5)]
 WORKERS = (1, 2, 4, 8, 16, 32, 64)
 
 
@@ -73,8 +78,14 @@ class Profile:
         return sheet.width / 25.4 * self.across <= MOST_COLUMNS and sheet.height / 25.4 <= MOST_INCHES
 
 
-def points(millimetres):
-    return round(millimetres * 72 / 25.4)
+def points(length):
+    """Of millimetres."""
+    return round(length * 72 / 25.4)
+
+
+def millimetres(length):
+    """Of points."""
+    return math.floor(length * 2540 / 72) / 100
 
 
 def ppd(profile, name, sheets):
@@ -156,15 +167,21 @@ def ppd_sheets(profile, sheets):
     return "\n".join(lines)
 
 
+def bounds_of_custom_sheet(profile):
+    """The width and height in points of the smallest, and of the largest sheet."""
+    margins = (72 * (profile.left + profile.right), 72 * (profile.top + profile.bottom))
+    return [math.ceil(both) + SHORTEST for both in margins], (MOST_COLUMNS * 72 // profile.across, MOST_INCHES * 72)
+
+
 def ppd_custom_sheet(profile):
     left, bottom, right, top = (72 * margin for margin in (profile.left, profile.bottom, profile.right, profile.top))
-    widest, longest = MOST_COLUMNS * 72 // profile.across, MOST_INCHES * 72
+    (narrowest, shortest), (widest, longest) = bounds_of_custom_sheet(profile)
     return f'''*MaxMediaWidth: "{widest}"
 *MaxMediaHeight: "{longest}"
 *HWMargins: {left:g} {bottom:g} {right:g} {top:g}
 *CustomPageSize True: "pop pop pop <</PageSize[5 -2 roll]/ImagingBBox null>>setpagedevice"
-*ParamCustomPageSize Width: 1 points {math.ceil(left + right) + SHORTEST} {widest}
-*ParamCustomPageSize Height: 2 points {math.ceil(top + bottom) + SHORTEST} {longest}
+*ParamCustomPageSize Width: 1 points {narrowest} {widest}
+*ParamCustomPageSize Height: 2 points {shortest} {longest}
 *ParamCustomPageSize WidthOffset: 3 points 0 0
 *ParamCustomPageSize HeightOffset: 4 points 0 0
 *ParamCustomPageSize Orientation: 5 int 0 0'''
@@ -181,7 +198,7 @@ def ppd_choices(profile):
         ppd_option("Resolution", "Resolution", [(resolution, resolution.replace("dpi", " DPI"),
                    f"<</HWResolution[{profile.across} {profile.down}]>>setpagedevice")], 10),
         ppd_option("ColorModel", "Color Mode", models, 10),
-        ppd_option("cupsPrintQuality", "Print Quality", [(name, text, "") for name, text in QUALITIES], 20),
+        ppd_option("cupsPrintQuality", "Print Quality", [(each.name, each.text, "") for each in QUALITIES], 20),
         ppd_option("Kernel", "Error Diffusion", [(name, text, "") for name, text in KERNELS], 20),
         ppd_option("Workers", "Threads", [(str(count), str(count), "") for count in WORKERS], 20),
         ppd_custom_option("Cap", "Most Dots of a Job", "No Limit", "Dots", 20),
@@ -210,8 +227,16 @@ def resolution_of(profile):
 
 def attributes(profile, name, sheets):
     """The attributes; lengths are in hundredths of a millimetre, and margins are rounded up."""
-    return "\n".join([*ipp_printer(profile, name), *ipp_raster(profile), *ipp_media(profile, sheets),
+    return "\n".join([*ipp_printer(profile, name), *ipp_raster(profile), *ipp_media(profile, sheets), ipp_presets(),
                       *(f"ATTR {line}" for line in IPP_CONSTANT), ""])
+
+
+def ipp_presets():
+    """The qualities by what they are, as Draft-by-Floyd-and-Steinberg: CUPS makes lines of a PPD of such names."""
+    names = ["-".join(re.findall("[A-Za-z]+", each.text)) for each in QUALITIES]
+    presets = [f'{{ MEMBER name preset-name "{name}" MEMBER enum print-quality {each.number} }}'
+               for name, each in zip(names, QUALITIES)]
+    return "ATTR collection job-presets-supported " + ",".join(presets)
 
 
 # In what all printers are alike: no finishing, one tray, front sides, and levels of ink that nobody knows.
@@ -261,13 +286,16 @@ def ipp_raster(profile):
 
 
 def ipp_media(profile, sheets):
-    names = ",".join(sheet.ipp_name for sheet in sheets)
+    least, most = bounds_of_custom_sheet(profile)
+    custom = [ipp_custom_name("min", least), ipp_custom_name("max", most)]
+    names = ",".join([*(sheet.ipp_name for sheet in sheets), *custom])
     kind = "labels" if sheets[0].ipp_name.startswith("om_label") else "stationery"
     lines = [
         f"ATTR keyword media-default {sheets[0].ipp_name}", f"ATTR keyword media-supported {names}",
         f"ATTR keyword media-ready {sheets[0].ipp_name}", f"ATTR keyword media-type-supported {kind}"]
     lines += [f"ATTR integer media-{side}-margin-supported {margin}" for side, margin in ipp_margins(profile)]
-    lines.append("ATTR collection media-size-supported " + ",".join(ipp_size(sheet) for sheet in sheets))
+    sizes = [ipp_size(sheet) for sheet in sheets] + [ipp_custom_size(least, most)]
+    lines.append("ATTR collection media-size-supported " + ",".join(sizes))
     columns = [ipp_column(profile, sheet, kind) for sheet in sheets]
     lines += [f"ATTR collection media-col-{key} {columns[0]}" for key in ("default", "ready")]
     return lines + ["ATTR collection media-col-database " + ",".join(columns)]
@@ -283,6 +311,16 @@ def ipp_column(profile, sheet, kind):
 
 def ipp_margins(profile):
     return [(side, math.ceil(getattr(profile, side) * 2540)) for side in ("bottom", "left", "right", "top")]
+
+
+def ipp_custom_name(word, inches):
+    width, height = (f"{millimetres(side):g}" for side in inches)
+    return f"custom_{word}_{width}x{height}mm"
+
+
+def ipp_custom_size(least, most):
+    (x, y), (last_x, last_y) = ([round(millimetres(side) * 100) for side in inches] for inches in (least, most))
+    return f"{{ MEMBER rangeOfInteger x-dimension {x}-{last_x} MEMBER rangeOfInteger y-dimension {y}-{last_y} }}"
 
 
 def ipp_size(sheet):
