@@ -6,7 +6,7 @@ use driver_fixtures::{black_pages, roomy};
 use ink_meter::{DotMeter, InkCounts, Meter};
 use known_jobs::TINY_JOB;
 use meter_fixtures::{counts, settled};
-use spool_core::{Ran, SpoolReport, run_spool};
+use spool_core::{FileCause, Ran, SpoolAnswer, SpoolCause, SpoolFault, SpoolReport, run_spool};
 use std::alloc::{AllocError, Global};
 use std::process::Abort;
 use std::sync::Wait;
@@ -103,7 +103,7 @@ fn jobs_of(alloc: Global, done: &[Ran], sender: u8) -> Result<Vec<(u32, u8, u32)
     Ok(jobs)
 }
 
-// A run and what it leaves: the status, for each sender the number, the status and the pages of its jobs, how many jobs
+// A run and what it leaves: the status and the answer, for each sender the number, the status and the pages of its jobs, how many jobs
 // of a black page are written, the black dots that are counted, and the last line.
 #[derive(Clone, Copy)]
 struct Case {
@@ -113,6 +113,7 @@ struct Case {
     failing_writes: &'static [u32],
     cap: u64,
     status: u8,
+    answer: SpoolAnswer,
     senders: &'static [&'static [(u32, u8, u32)]],
     pages: usize,
     black: u64,
@@ -128,6 +129,7 @@ const THREE_JOBS: Case = Case {
     failing_writes: &[],
     cap: 1_000,
     status: 0,
+    answer: SpoolAnswer::Done,
     senders: &[&[(1, 0, 1), (2, 0, 1)], &[(1, 0, 1)]],
     pages: 3,
     black: 48,
@@ -193,9 +195,9 @@ fn try_case<R: Abort + Threads + Wait + Sync>(
     case: &Case,
 ) -> Result<(), Fail> {
     let left = left_by(rt, alloc, case)?;
-    let counted = (left.report.status, left.counted);
+    let ended = (left.report.status, left.report.answer, left.counted);
     let black = Some(counts(case.black, 0, 0, 0));
-    same(rt, at, &counted, &(case.status, black));
+    same(rt, at, &ended, &(case.status, case.answer, black));
     same_senders(rt, alloc, at, &left.report.done, case.senders)?;
     same_texts(rt, alloc, at, &left, case)
 }
@@ -210,6 +212,7 @@ fn the_spool_counts_a_failed_job(rt: HostRuntime) -> Result<(), Fail> {
     const CASE: Case = Case {
         files: &[("a", 1), ("b", 0), ("c", 1)],
         status: 9,
+        answer: SpoolAnswer::Failed { count: 1 },
         senders: &[&[(1, 0, 1), (2, 3, 0)], &[(1, 0, 1)]],
         pages: 2,
         black: 32,
@@ -221,13 +224,18 @@ fn the_spool_counts_a_failed_job(rt: HostRuntime) -> Result<(), Fail> {
 
 #[test]
 fn the_spool_refuses_an_absent_file_and_no_send(rt: HostRuntime) -> Result<(), Fail> {
-    const CASES: [(&str, Case); 3] = [
+    const CASES: [(&str, Case); 4] = [
         (
             "absent",
             Case {
                 words: &["profile=tiny", "send=x"],
                 files: &[],
                 status: 3,
+                answer: SpoolAnswer::File {
+                    sender: 1,
+                    job: 1,
+                    cause: FileCause::Absent,
+                },
                 line: "file: sender 1 job 1: Absent\n",
                 ..NONE
             },
@@ -237,7 +245,27 @@ fn the_spool_refuses_an_absent_file_and_no_send(rt: HostRuntime) -> Result<(), F
             Case {
                 words: &["profile=tiny", "send=a", "send=b,c,d,a"],
                 status: 3,
+                answer: SpoolAnswer::File {
+                    sender: 2,
+                    job: 3,
+                    cause: FileCause::Absent,
+                },
                 line: "file: sender 2 job 3: Absent\n",
+                ..NONE
+            },
+        ),
+        (
+            "absent before a read that would fail",
+            Case {
+                words: &["profile=tiny", "send=a,d,b"],
+                failing_reads: &[3],
+                status: 3,
+                answer: SpoolAnswer::File {
+                    sender: 1,
+                    job: 2,
+                    cause: FileCause::Absent,
+                },
+                line: "file: sender 1 job 2: Absent\n",
                 ..NONE
             },
         ),
@@ -247,6 +275,10 @@ fn the_spool_refuses_an_absent_file_and_no_send(rt: HostRuntime) -> Result<(), F
                 words: &["profile=tiny"],
                 files: &[],
                 status: 1,
+                answer: SpoolAnswer::Usage(SpoolFault {
+                    word: 2,
+                    cause: SpoolCause::NoSend,
+                }),
                 line: "usage: word 2: NoSend\n",
                 ..NONE
             },
@@ -276,6 +308,7 @@ const FAILED_SHELVES: [(&str, Case); 4] = [
         "read 1",
         Case {
             failing_reads: &[1],
+            answer: SpoolAnswer::ReadFile { sender: 1, job: 1 },
             ..FAILED_SHELF
         },
     ),
@@ -283,6 +316,7 @@ const FAILED_SHELVES: [(&str, Case); 4] = [
         "read 2",
         Case {
             failing_reads: &[2],
+            answer: SpoolAnswer::ReadFile { sender: 1, job: 2 },
             ..FAILED_SHELF
         },
     ),
@@ -290,6 +324,7 @@ const FAILED_SHELVES: [(&str, Case); 4] = [
         "read 3",
         Case {
             failing_reads: &[3],
+            answer: SpoolAnswer::ReadFile { sender: 2, job: 1 },
             ..FAILED_SHELF
         },
     ),
@@ -298,6 +333,7 @@ const FAILED_SHELVES: [(&str, Case); 4] = [
         Case {
             words: &["profile=own", "send=a"],
             failing_reads: &[1],
+            answer: SpoolAnswer::Read,
             ..FAILED_SHELF
         },
     ),
@@ -317,6 +353,11 @@ const FAILED_WRITES: [(&str, Case); 3] = [
         Case {
             failing_writes: &[1],
             status: 5,
+            answer: SpoolAnswer::Write {
+                sender: 1,
+                job: 1,
+                page: 1,
+            },
             senders: &[&[(1, 5, 0)]],
             pages: 0,
             black: 16,
@@ -329,6 +370,11 @@ const FAILED_WRITES: [(&str, Case); 3] = [
         Case {
             failing_writes: &[93],
             status: 5,
+            answer: SpoolAnswer::Write {
+                sender: 1,
+                job: 2,
+                page: 1,
+            },
             senders: &[&[(1, 0, 1), (2, 5, 0)]],
             pages: 1,
             black: 32,
@@ -342,6 +388,11 @@ const FAILED_WRITES: [(&str, Case); 3] = [
             files: &[("a", 1), ("b", 1), ("c", 3)],
             failing_writes: &[277],
             status: 5,
+            answer: SpoolAnswer::Write {
+                sender: 1,
+                job: 3,
+                page: 2,
+            },
             senders: &[&[(1, 0, 1), (2, 0, 1), (3, 5, 1)]],
             pages: 3,
             black: 64,
@@ -364,6 +415,7 @@ fn the_third_job_goes_past_the_cap(rt: HostRuntime) -> Result<(), Fail> {
     const CASE: Case = Case {
         cap: 47,
         status: 9,
+        answer: SpoolAnswer::Failed { count: 1 },
         senders: &[&[(1, 0, 1), (2, 0, 1), (3, 6, 0)]],
         pages: 2,
         black: 32,

@@ -1,13 +1,12 @@
 //! The queue between threads.
 ghost use Rattle.spool_core.specs.Senders.{CanSend};
-ghost use Rattle.spool_queue.specs.Passes.{AreAllPasses, sent_of, senders_of, taken_of};
+ghost use Rattle.spool_queue.specs.Passes.{IsSenderOf, sender_of, sent_of};
 ghost use Rattle.std.specs.Arc.{arc_value};
-ghost use Rattle.std.specs.Prelude.{All, IfOk, [], length, ◌≡◌, ◌∷◌};
+ghost use Rattle.std.specs.Prelude.{All, IfOk, [], length, map, ◌≡◌, ◌∷◌};
 
-use super::team::{run_all, take_all};
+use super::team::{Work, left_by_two, submit_all, take_all, take_of_two};
 use super::{Shown, same, same_jobs, shown, stream};
-use spool_core::{Work, submit_all};
-use spool_queue::{PrintPass, SendPass, Spool, SpoolJob, StreamBytes};
+use spool_queue::{SendPass, Spool, SpoolJob, StreamBytes};
 use std::alloc::{AllocError, Global};
 use std::process::Abort;
 use std::sync::{Arc, Wait};
@@ -166,18 +165,15 @@ fn a_refused_push_and_an_empty_pop_lose_nothing(rt: HostRuntime) -> Result<(), F
     Ok(())
 }
 
-// All jobs of two senders, of two and of three streams, through a queue that has room for all.
-fn all_of_two<R: Threads + Wait + Sync>(
-    rt: &R,
-    alloc: Global,
-    spool: &Spool,
-    senders: Vec<SendPass>,
-    printer: PrintPass,
-) -> Result<Vec<SpoolJob>, Fail>
-    requires passes { AreAllPasses spool.now senders.items printer }
-    requires two { (length senders.items ≡ 2) × (senders_of printer ≡ 2) }
+// The work of two senders that have sent nothing: two streams and three.
+fn work_of_two(alloc: Global, spool: &Spool, senders: Vec<SendPass>) -> Result<(Work, Work), Fail>
+    requires passes { All (IsSenderOf spool.now) senders.items }
+    requires order { map sender_of senders.items ≡ 1 ∷ 2 ∷ [] }
     requires sent { All (λ pass. sent_of pass ≡ []) senders.items }
-    requires taken { taken_of printer ≡ [] }
+    ensures one { IfOk result (λ works. CanSend spool.now works.0.pass works.0.streams.items
+        × (sender_of works.0.pass ≡ 1) × (length works.0.streams.items ≡ 2)) }
+    ensures two { IfOk result (λ works. CanSend spool.now works.1.pass works.1.streams.items
+        × (sender_of works.1.pass ≡ 2) × (length works.1.streams.items ≡ 3)) }
 {
     let (pass, other) = two_of(senders);
     let one = Work {
@@ -188,12 +184,7 @@ fn all_of_two<R: Threads + Wait + Sync>(
         pass: other,
         streams: streams(alloc, 3)?,
     };
-    let mut works = Vec::with_capacity(alloc, 2)?;
-    works.push_reserved(one);
-    works.push_reserved(two);
-    let ended = Vec::with_capacity(alloc, 2)?;
-    let jobs = Vec::with_capacity(alloc, 5)?;
-    Ok(run_all(rt, spool, works, printer, 5, ended, jobs))
+    Ok((one, two))
 }
 
 #[test]
@@ -202,9 +193,27 @@ fn all_senders_send_before_the_printer_takes(rt: HostRuntime) -> Result<(), Fail
     let Ok((spool, senders, printer)) = Spool::make(alloc, 2, 5) else {
         panic!(rt; "memory");
     };
-    let jobs = all_of_two(&rt, alloc, &spool, senders, printer)?;
+    let (one, two) = work_of_two(alloc, &spool, senders)?;
+    let passes = Vec::with_capacity(alloc, 2)?;
+    let room = Vec::with_capacity(alloc, 5)?;
+    let jobs = take_of_two(&rt, &spool, one, two, printer, 5, passes, room);
     in_order(&rt, jobs.as_slice(), 1, 2);
     in_order(&rt, jobs.as_slice(), 2, 3);
     same(&rt, "all jobs", &jobs.len(), &5);
+    Ok(())
+}
+
+#[test]
+fn the_pass_of_the_second_sender_comes_back_first(rt: HostRuntime) -> Result<(), Fail> {
+    let alloc = rt.alloc();
+    let Ok((spool, senders, printer)) = Spool::make(alloc, 2, 5) else {
+        panic!(rt; "memory");
+    };
+    let (one, two) = work_of_two(alloc, &spool, senders)?;
+    let passes = Vec::with_capacity(alloc, 2)?;
+    let jobs = left_by_two(&rt, spool, one, two, printer, passes);
+    in_order(&rt, jobs.as_slice(), 1, 2);
+    in_order(&rt, jobs.as_slice(), 2, 3);
+    same(&rt, "the jobs that are left", &jobs.len(), &5);
     Ok(())
 }
