@@ -35,65 +35,81 @@ fn two_tiles_are_inside_the_gate_at_once(rt: HostRuntime) -> Result<(), Fail> {
     Ok(())
 }
 
-// A gate that counts how often a tile of each band is entered, on a page of one column of tiles.
+// How many turns the gate below holds a tile.
+const TURNS: u32 = 5_000_000;
+
+// A gate for a page of one column of tiles, whose first slab has eight bands. It counts the tiles that enter in the
+// order of their rows. It holds the last tile of the first slab, and counts whether another tile enters meanwhile: then
+// the next slab was begun before this one ended.
 #[derive(Drop)]
-struct CountingGate {
-    bands: [AtomicU64; 8],
-    others: AtomicU64,
+struct TurnGate {
+    came: AtomicU64,
+    in_turn: AtomicU64,
+    overtaken: AtomicU64,
 }
 
-impl CountingGate {
-    fn make() -> CountingGate {
-        CountingGate {
-            bands: [
-                AtomicU64::new(0),
-                AtomicU64::new(0),
-                AtomicU64::new(0),
-                AtomicU64::new(0),
-                AtomicU64::new(0),
-                AtomicU64::new(0),
-                AtomicU64::new(0),
-                AtomicU64::new(0),
-            ],
-            others: AtomicU64::new(0),
+impl TurnGate {
+    fn make() -> TurnGate {
+        TurnGate {
+            came: AtomicU64::new(0),
+            in_turn: AtomicU64::new(0),
+            overtaken: AtomicU64::new(0),
         }
     }
 
-    // How often a tile of each band, and any other, was entered.
-    fn counts(&self) -> ([u64; 8], u64) {
-        let mut counts = [0; 8];
-        for (count, band) in counts.iter_mut().zip(self.bands.iter()) {
-            *count = band.load(Ordering::SeqCst);
+    // How many tiles entered, how many of them in turn, and how many while another was held.
+    fn counts(&self) -> (u64, u64, u64) {
+        let load = |count: &AtomicU64| count.load(Ordering::SeqCst);
+        (load(&self.came), load(&self.in_turn), load(&self.overtaken))
+    }
+
+    // Holds a tile until another enters, or for all turns.
+    fn hold(&self) {
+        for _ in 0..TURNS {
+            if self.came.load(Ordering::SeqCst) > 8 {
+                self.overtaken.fetch_add(1, Ordering::SeqCst);
+                return;
+            }
         }
-        (counts, self.others.load(Ordering::SeqCst))
     }
 }
 
-impl Gate for CountingGate {
+impl Gate for TurnGate {
     fn enter(&self, p: Place) {
-        let count = match self.bands.get(p.j as usize) {
-            Some(band) if p.c == 0 => band,
-            _ => &self.others,
-        };
-        count.fetch_add(1, Ordering::SeqCst);
+        let before = self.came.fetch_add(1, Ordering::SeqCst);
+        if p.c == 0 && u64::from(p.j) == before % 8 {
+            self.in_turn.fetch_add(1, Ordering::SeqCst);
+        }
+        if before == 7 {
+            self.hold();
+        }
     }
 }
 
-// The page is diffused in slabs of 256 rows, however many workers there are.
+// The page is diffused in slabs of 256 rows, one after another, however many workers there are.
 #[test]
 fn errors_cross_the_slab_at_row_256(rt: HostRuntime) -> Result<(), Fail> {
     let alloc = rt.alloc();
     for workers in ["workers=1", "workers=2"] {
         let page = one_page(alloc, 1, 257, &[0xFF, 0, 0x9B, 0, 0, 0x9B])?;
-        let gate = CountingGate::make();
+        let gate = TurnGate::make();
         let left = print_through(&rt, alloc, workers, page, &gate)?;
         hashes_to(&rt, &left, 1855, 0xB1BB_344A_C3B2_09A4);
         plays_to(&rt, alloc, &left, 1064, 0x6523_246F_CB57_0EA5)?;
         let counts = gate.counts();
-        assert!(rt;
-            counts == ([2, 1, 1, 1, 1, 1, 1, 1], 0),
-            "{workers} {counts:?}"
-        );
+        assert!(rt; counts == (9, 9, 0), "{workers} {counts:?}");
     }
+    Ok(())
+}
+
+// Seven tiles of the first slab, the first tile of the next one, and then the eighth.
+#[test]
+fn the_gate_tells_a_slab_that_is_begun_too_early(rt: HostRuntime) -> Result<(), Fail> {
+    let gate = TurnGate::make();
+    for j in [0, 1, 2, 3, 4, 5, 6, 0, 7] {
+        gate.enter(Place { c: 0, j });
+    }
+    let counts = gate.counts();
+    assert!(rt; counts == (9, 7, 0), "{counts:?}");
     Ok(())
 }

@@ -1,5 +1,5 @@
 //! One meter, and the cap that a word sets on it.
-use crate::fixture::{Wanted, leaves, run_metered};
+use crate::fixture::{Wanted, leaves, leaves_parts, run_metered};
 use crate::meters::fixture::{ROOMY, last, one_meter, run_bytes_metered, runs_to};
 use driver_fixtures::{Left, add_page, begin, black_pages, no_files, one_file, plain, roomy};
 use ink_meter::{DotMeter, InkCounts, Meter};
@@ -148,7 +148,28 @@ fn a_cut_page_comes_before_its_cap(rt: HostRuntime) -> Result<(), Fail> {
     Ok(())
 }
 
-// Two lines of four pixels each: red, for which magenta and yellow are used; black above cyan; black.
+// The commands before the passes of a sheet of two rows, those that go down by a row, and those after the passes.
+const PROLOGUE: [u8; 46] = [
+    0x1B, 0x40, 0x1B, 0x28, 0x47, 1, 0, 1, 0x1B, 0x28, 0x55, 1, 0, 5, 0x1B, 0x28, 0x69, 1, 0, 0,
+    0x1B, 0x55, 1, 0x1B, 0x28, 0x43, 2, 0, 4, 0, 0x1B, 0x28, 0x63, 4, 0, 0, 0, 4, 0, 0x1B, 0x28,
+    0x56, 2, 0, 0, 0,
+];
+
+const DOWN: [u8; 7] = [0x1B, 0x28, 0x76, 2, 0, 2, 0];
+
+const END: [u8; 3] = [0x0C, 0x1B, 0x40];
+
+// The passes of four dots in each ink.
+const BLACK: [u8; 14] = [0x1B, 0x72, 0, 0x0D, 0x1B, 0x2E, 1, 10, 10, 1, 4, 0, 0, 0xF0];
+
+const MAGENTA: [u8; 14] = [0x1B, 0x72, 1, 0x0D, 0x1B, 0x2E, 1, 10, 10, 1, 4, 0, 0, 0xF0];
+
+const CYAN: [u8; 14] = [0x1B, 0x72, 2, 0x0D, 0x1B, 0x2E, 1, 10, 10, 1, 4, 0, 0, 0xF0];
+
+const YELLOW: [u8; 14] = [0x1B, 0x72, 4, 0x0D, 0x1B, 0x2E, 1, 10, 10, 1, 4, 0, 0, 0xF0];
+
+// Two lines of four pixels each: red, for which magenta and yellow are used; black above cyan; black. The jobs of the
+// first two pages were worked out by hand.
 #[test]
 fn the_third_page_of_colour_is_refused(rt: HostRuntime) -> Result<(), Fail> {
     const PAGES: [(Kind, (u32, u32), &[u8]); 3] = [
@@ -156,10 +177,17 @@ fn the_third_page_of_colour_is_refused(rt: HostRuntime) -> Result<(), Fail> {
         (Kind::Rgb8, (4, 2), &[0, 3, 0, 0, 0, 0, 3, 0, 255, 255]),
         (Kind::Rgb8, (4, 2), &[1, 3, 0, 0, 0]),
     ];
+    const WANTED: Wanted = (
+        6,
+        &[
+            &PROLOGUE, &MAGENTA, &YELLOW, &DOWN, &MAGENTA, &YELLOW, &END, &PROLOGUE, &BLACK, &DOWN,
+            &CYAN, &END,
+        ],
+        b"over cap: page 3: total 24, page 8, cap 30\n",
+    );
     let words = ["print", "profile=four.txt", "cap=30"];
     let (left, counted) = print_counted(&rt, rt.alloc(), &words, &PAGES)?;
-    let line = b"over cap: page 3: total 24, page 8, cap 30\n";
-    leaves(&rt, &left, (6, left.out.bytes(), line));
+    leaves_parts(&rt, rt.alloc(), &left, WANTED)?;
     assert!(rt; counted == Some((30, counts(4, 4, 8, 8))));
     Ok(())
 }
