@@ -7,8 +7,6 @@ mod checks;
 #[cfg(test)]
 mod feed;
 #[cfg(test)]
-mod known;
-#[cfg(test)]
 mod lines;
 #[cfg(test)]
 mod lister;

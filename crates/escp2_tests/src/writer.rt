@@ -1,6 +1,8 @@
-//! The bytes of each command, written here by hand, and sinks that fail or take short pieces.
+//! The bytes of each command, written here by hand, the job that was worked out by hand, and sinks that fail or take
+//! short pieces.
 use crate::checks::{HEADER, is_fit, same, same_bytes, sink};
 use escp2_writer::{Command, RasterHead, append_header, append_row, put};
+use known_jobs::{TINY_COMMANDS, TINY_JOB, tiny_rows};
 use printer_definitions::Ink;
 use std::alloc::Global;
 use std::process::Abort;
@@ -100,6 +102,18 @@ fn each_command_has_its_bytes(rt: HostRuntime) -> Result<(), Fail> {
         let mut sink = sink(rt.alloc(), 16, 16, 0)?;
         puts(&rt, "a command", &mut sink, &command, rows, Ok(()), bytes);
     }
+    Ok(())
+}
+
+#[test]
+fn the_commands_of_the_known_job_are_written_as_its_bytes(rt: HostRuntime) -> Result<(), Fail> {
+    let mut sink = sink(rt.alloc(), 92, 92, 0)?;
+    for place in 0..TINY_COMMANDS.len() {
+        let (command, rows) = (TINY_COMMANDS[place], tiny_rows(place));
+        is_fit(&rt, &command, rows);
+        same(&rt, "a command", &put(&command, rows, &mut sink), &Ok(()));
+    }
+    same_bytes(&rt, "the job", sink.bytes(), &TINY_JOB);
     Ok(())
 }
 
