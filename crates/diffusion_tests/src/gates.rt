@@ -1,6 +1,7 @@
 //! Gates that watch the workers, or hold them back.
+use dot_planes::{InkRows, TileAmounts, TileBytes, TileRows};
 use std::sync::atomic::{AtomicU64, Ordering};
-use tile_shape::Place;
+use tile_shape::{Place, Shape};
 use wavefront_team::Gate;
 
 /// Counts how often each tile of five columns and three bands enters, in four bits each.
@@ -15,6 +16,41 @@ impl Gate for CountingGate {
             self.entered
                 .fetch_add(1 << (4 * (5 * p.j + p.c)), Ordering::SeqCst);
         }
+    }
+}
+
+impl CountingGate {
+    // Whether this tile has entered.
+    fn has_entered(&self, p: Place) -> bool {
+        let entered = self.entered.load(Ordering::SeqCst);
+        p.c < 5 && p.j < 3 && (entered >> (4 * (5 * p.j + p.c))) % 16 > 0
+    }
+}
+
+/// Rows that count the tiles whose work begins before they have entered the gate: work begins with the amounts.
+#[derive(Drop)]
+pub(crate) struct WatchedRows<'a> {
+    pub(crate) rows: InkRows,
+    pub(crate) gate: &'a CountingGate,
+    pub(crate) early: AtomicU64,
+}
+
+impl TileRows for WatchedRows<'_> {
+    ghost table = { λ watched. watched.rows };
+
+    fn shape(&self) -> Shape {
+        TileRows::shape(&self.rows)
+    }
+
+    fn inks(&self) -> u8 {
+        TileRows::inks(&self.rows)
+    }
+
+    fn gather(&self, place: Place, bytes: &mut TileBytes, out: &mut TileAmounts) {
+        if !self.gate.has_entered(place) {
+            self.early.fetch_add(1, Ordering::SeqCst);
+        }
+        TileRows::gather(&self.rows, place, bytes, out);
     }
 }
 

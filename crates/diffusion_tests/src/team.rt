@@ -1,6 +1,6 @@
 //! Teams of several sizes, and workers that gates watch or hold back.
 use crate::gates::{CountingGate, HoldingGate};
-use crate::windows::{Case, is_right, rows_of, wrong_beside};
+use crate::windows::{Case, early_tiles, is_right, rows_of, wrong_beside};
 use diffusion_kernel::Kernel;
 use slab_fixtures::{LEVEL_SLAB, Measure, MeetingGate, known_rows, measured};
 use std::sync::atomic::{AtomicU64, Ordering};
@@ -84,6 +84,22 @@ fn each_tile_enters_the_gate_once(rt: HostRuntime) {
         is_right(&rt, rt.alloc(), &LEVEL, workers, &gate);
         let entered = gate.entered.load(Ordering::SeqCst);
         assert_eq!(rt; entered, 0x0111_1111_1111_1111, "by {workers}");
+    }
+}
+
+#[test]
+fn no_tile_is_worked_before_it_enters_the_gate(rt: HostRuntime) {
+    for workers in [1, 2, 8] {
+        let gate = CountingGate {
+            entered: AtomicU64::new(0),
+        };
+        let early = early_tiles(&rt, rt.alloc(), &LEVEL, workers, &gate);
+        let entered = gate.entered.load(Ordering::SeqCst);
+        assert_eq!(rt;
+            (early, entered),
+            (Some(0), 0x0111_1111_1111_1111),
+            "by {workers}"
+        );
     }
 }
 

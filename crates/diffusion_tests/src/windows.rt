@@ -4,11 +4,13 @@ ghost use Rattle.dot_planes.specs.Tables.{HasSizeOf};
 ghost use Rattle.std.specs.Prelude.{IfSome, length, ◌≡◌};
 ghost use Rattle.tile_border.specs.Tops.{IsTopOf};
 
+use crate::gates::{CountingGate, WatchedRows};
 use diffusion_kernel::Kernel;
 use dot_planes::{InkRows, Planes};
 use plain_diffusion::{Above, Amounts, Definition, amount_at};
 use std::alloc::Global;
 use std::process::Abort;
+use std::sync::atomic::{AtomicU64, Ordering};
 use std::thread::Threads;
 use tile_border::{BottomEdge, TopEdges};
 use wavefront_team::{DotsSoFar, Gate, OpenGate, Team, diffuse, diffuse_beside};
@@ -359,6 +361,31 @@ pub(crate) fn wrong_beside<R: Threads + Sync, F: FnMut()>(
     let mut dots = DotsSoFar::of(planes);
     let bottom = next_beside(&team, alloc, case, top, 0, height, room, &mut dots, errand)?;
     wrong_of(alloc, case, &dots.finish(), &bottom)
+}
+
+/// How many tiles of the first slab of a window this many workers begin to work before they enter the gate.
+pub(crate) fn early_tiles<R: Threads + Sync>(
+    threads: &R,
+    alloc: Global,
+    case: &Case,
+    workers: u8,
+    gate: &CountingGate,
+) -> Option<u64> {
+    let team = team_of(threads, workers, gate);
+    let mut planes = spotted(alloc, case.width, case.height(), case.inks)?;
+    let top = top_of(alloc, case.width, case.inks, case.error)?;
+    let rows = amounts(alloc, case, 0, case.height())?;
+    let fits = rows.rows() <= 300 && ABOVE + rows.rows() <= planes.rows();
+    if !fits || rows.width() != planes.width() || rows.inks() != planes.inks() {
+        return None;
+    }
+    let watched = WatchedRows {
+        rows,
+        gate,
+        early: AtomicU64::new(0),
+    };
+    diffuse(&team, alloc, &watched, case.kernel, top, &mut planes, ABOVE).ok()?;
+    Some(watched.early.load(Ordering::SeqCst))
 }
 
 /// The rows of a window of one ink, one after another, as this many workers diffuse it.
