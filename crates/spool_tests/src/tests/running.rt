@@ -103,8 +103,8 @@ fn jobs_of(alloc: Global, done: &[Ran], sender: u8) -> Result<Vec<(u32, u8, u32)
     Ok(jobs)
 }
 
-// A run and what it leaves: the status and the answer, for each sender the number, the status and the pages of its jobs, how many jobs
-// of a black page are written, the black dots that are counted, and the last line.
+// A run and what it leaves: the status and the answer, for each sender the number, the status and the pages of its
+// jobs, how many jobs of a black page are written, the black dots that are counted, and the last line.
 #[derive(Clone, Copy)]
 struct Case {
     words: &'static [&'static str],
