@@ -5,7 +5,8 @@ ghost use Rattle.spool_queue.specs.Jobs.{AreSent, Stream, job};
 ghost use Rattle.spool_queue.specs.Rule.{FollowsRule, IsAsSent, IsNext, printer_view, sender_view, spent_view};
 ghost use Rattle.spool_queue.specs.declared.job.SpoolJob.{SpoolJob};
 ghost use Rattle.spool_queue.specs.declared.rule.QueueView.{QueueView};
-ghost use Rattle.std.specs.Prelude.{Contains, List, [], length, slice_index_or, suc, true, ℕ, ◌++◌, ◌-◌, ◌<◌, ◌≡◌, ◌≤◌, ◌∷◌};
+ghost use Rattle.std.specs.Prelude.{Contains, List, [], length, slice_index_or, suc, true, ℕ};
+ghost use Rattle.std.specs.Prelude.{◌++◌, ◌-◌, ◌<◌, ◌≡◌, ◌≤◌, ◌∷◌};
 ghost use lib.ListN.{get_elem?};
 ghost use mathlib.Core.Option.{some};
 

@@ -4,9 +4,9 @@
 //!
 //! The rule of the spool (`specs/Rule.antt`) holds between any two steps of the queue, in every order of the threads:
 //! of each sender its jobs among those taken, and then those in the queue, are the streams that its pass has sent, in
-//! order and numbered from 1, and nothing else is there. `laws` has that each step keeps the rule, and what follows: no
-//! job is lost, doubled, or taken before an earlier one of its sender. Which of two senders' jobs is taken first is left
-//! open.
+//! order and numbered from 1, and nothing else is there. `laws` has that each step keeps the rule, and what follows:
+//! no job is lost, doubled, or taken before an earlier one of its sender. Which of two senders' jobs is taken first is
+//! left open.
 //!
 //! - `make` takes all the memory that the spool ever needs, or answers `Memory`; no other call takes any.
 //! - `submit` gives the job's number and appends the stream to the pass's list. It tries again while the queue is full.
