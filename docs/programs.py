@@ -81,11 +81,10 @@ def words(name, told, text):
             row = re.search(rf"^\| `{command} (.*?)\|", text("README.md"), re.MULTILINE)
             if not row or set(re.findall(r"(\w+)=", row[1])) != set(keys):
                 yield f"README.md:1: the words of {command} differ from --help"
-        yield from differ(BASH, text(BASH), rf" {command}\) printf '%s\\n' ([a-z ]*) ;;$", keys, f"the words of {command}")
-        if name == "jinthbao":
-            yield from differ(ZSH, text(ZSH), rf"^    {command} '([a-z ]*)'$", keys, f"the words of {command}")
-        else:
-            yield from differ(ZSH, re.sub(r"\$keys\[(\w+)\]", r"\1", text(ZSH)), r"-w word ([a-z ]*)$", keys, "the words")
+        what, zsh = f"the words of {command}", re.sub(r"\$keys\[(\w+)\]", r"\1", text(ZSH))
+        yield from differ(BASH, text(BASH), rf" {command}\) printf '%s\\n' ([a-z ]*) ;;$", keys, what)
+        place = rf"^    {command} '([a-z ]*)'$" if name == "jinthbao" else r"-w word ([a-z ]*)$"
+        yield from differ(ZSH, zsh, place, keys, what)
 
 
 def statuses(name, told, text):
@@ -96,11 +95,11 @@ def statuses(name, told, text):
             re.findall(r'^\.It (\d) Ta (?:Li "(.*?)"|(none)) Ta', text(page), re.MULTILINE)}
     if said != lines:
         yield f"{page}:1: the statuses differ from --help: {sorted(set(said.items()) ^ set(lines.items()))}"
-    body = text(USING) if "spool" in name else text("README.md")
-    rows = re.findall(r"^\| (\d) \| (?:[^|]* \|)*? ?(?:`([^`|]*)`(?:; none [^|]*)?|(none)) \|", body.partition("\n| Status |")[2]
-                      .partition("\n\n")[0], re.MULTILINE)
-    if {number: line or none for number, line, none in rows} != lines:
-        yield f"{USING if 'spool' in name else 'README.md'}:1: the statuses differ from --help: {rows}"
+    file = USING if "spool" in name else "README.md"
+    rows = re.findall(r"^\| (\d) \| (?:[^|]* \|)*? ?(?:`([^`|]*)`(?:; none [^|]*)?|(none)) \|",
+                      text(file).partition("\n| Status |")[2].partition("\n\n")[0], re.MULTILINE)
+    if (said := {number: line or none for number, line, none in rows}) != lines:
+        yield f"{file}:1: the statuses differ from --help: {sorted(set(said.items()) ^ set(lines.items()))}"
     if name == "jinthbao" and (heads := re.findall(r"^### (\d): ", text(USING), re.MULTILINE)) != sorted(lines):
         yield f"{USING}:1: the headings of statuses differ from --help: {' '.join(heads)}"
 
@@ -132,8 +131,8 @@ def stated(key, text):
         for found in re.finditer(rf"^\.It Cm {key}= .*\n((?:(?!\.It|\.El).*\n)*)", text(name), re.MULTILINE):
             for default in re.finditer(r"default:?(?: Cm)? (\w+)|([\d,]+), which is the default", found[1]):
                 yield name, found.start(), (default[1] or default[2]).replace(",", "")
-    for found in re.finditer(rf"^\| `(?:\w+=NUMBER`, `)?{key}=[A-Z]\S*`.*\| `?([\w,]+?)`?(?:, (\w+))?(?:, which[^|]*| limit)? \|$",
-                             text(USING), re.MULTILINE):
+    row = rf"^\| `(?:\w+=NUMBER`, `)?{key}=[A-Z]\S*`.*\| `?([\w,]+?)`?(?:, (\w+))?(?:, which[^|]*| limit)? \|$"
+    for found in re.finditer(row, text(USING), re.MULTILINE):
         second = f", `{key}=" in found[0]
         yield USING, found.start(), (found[2] if second else found[1]).replace(",", "")
 
