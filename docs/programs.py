@@ -70,6 +70,12 @@ def usage(name, told):
 
 
 def words(name, told, text):
+    commands = [page.removeprefix("jinthbao-") for page, _ in usage(name, told)]
+    if name == "jinthbao":
+        yield from differ(BASH, text(BASH), r'compgen -W "([a-z ]*) --help --version" -- "\$', commands, "the commands")
+        listed = re.findall(r"(?m)^\.Nm\n\.Cm (\w+)\n", text(MAN + "jinthbao.1"))
+        if listed != commands:
+            yield f"{MAN}jinthbao.1:1: the commands are not those of --help: {' '.join(listed)}"
     for page, keys in usage(name, told):
         file = f"{MAN}{page}.1"
         body = text(file)
@@ -104,11 +110,14 @@ def statuses(name, told, text):
         yield f"{USING}:1: the headings of statuses differ from --help: {' '.join(heads)}"
 
 
+def wanted_values(told, key):
+    listed = re.search(rf"(?m)^{key}=NAME +(.*?)(?:, or a file| \(default)", told)[1]
+    return re.findall(r"\w+", re.sub(r"\(.*?\)| or ", " ", listed))
+
+
 def values(told, text):
-    lists = {"profile": r"^profile=NAME +(.*), or a file", "kernel": r"^kernel=NAME +(.*) \(default",
-             "kind": r"^kind=NAME +(.*) \(default"}
     for key, name, pattern in VALUES:
-        wanted = re.findall(r"\w+", re.sub(r"\(.*?\)| or ", " ", re.search(lists[key], told, re.MULTILINE)[1]))
+        wanted = wanted_values(told, key)
         body = re.sub(r'(\("\w+"), "[^"]*"\)', r"\1)", text(name)) if name == DESCRIBE else text(name)
         yield from differ(name, body, pattern, wanted, f"the values of {key}")
 
@@ -119,8 +128,11 @@ def defaults(told, text):
         key = entry.partition("=")[0]
         found = re.search(r"\(default:? (\w+)|(\d+) \(the default\)", entry)
         wanted = found and (found[1] or found[2])
-        for name, place, said in stated(key, text) if wanted else []:
-            if said != wanted:
+        said = list(stated(key, text)) if wanted else []
+        if wanted and USING not in [name for name, _, _ in said]:
+            yield f"{USING}:1: no table has the word {key}"
+        for name, place, default in said:
+            if default != wanted:
                 yield at(name, text(name), place, f"the default of {key} is {wanted} in --help")
 
 
@@ -143,6 +155,9 @@ def limits(told, text):
     for key, wanted in [("MOST_COLUMNS", int(columns)), ("MOST_INCHES", int(rows) // 720)]:
         if not re.search(rf"^{key} = {wanted}$", text(DESCRIBE), re.MULTILINE):
             yield f"{DESCRIBE}:1: {key} is not {wanted}, as in --help"
+    kinds = re.sub(r'": Pixels.*', '"', text(DESCRIBE)).lower()
+    wanted = {kind.rstrip("1") for kind in wanted_values(told, "kind")}
+    yield from differ(DESCRIBE, kinds, r"^pixels = \{\n((?:.*\n)*?)\}", wanted, "the kinds of pixel")
     most = re.search(r"workers=NUMBER +1 to (\d+)", told)[1]
     if not re.search(rf"^WORKERS = \(1, .*\b{most}\)$", text(DESCRIBE), re.MULTILINE):
         yield f"{DESCRIBE}:1: WORKERS does not end with {most}, as in --help"
