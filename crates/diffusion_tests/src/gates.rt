@@ -2,7 +2,7 @@
 use dot_planes::{InkRows, TileAmounts, TileBytes, TileRows};
 use std::sync::atomic::{AtomicU64, Ordering};
 use tile_shape::{Place, Shape};
-use wavefront_team::Gate;
+use worker_team::Gate;
 
 /// Counts how often each tile of five columns and three bands enters, in four bits each.
 #[derive(Drop)]

@@ -1,7 +1,7 @@
 //! Slabs of a window, by one worker and by two.
 use crate::windows::{Case, is_right, wrong_waiting};
 use diffusion_kernel::Kernel;
-use wavefront_team::OpenGate;
+use worker_team::OpenGate;
 
 const KERNELS: [Kernel; 3] = [Kernel::Floyd, Kernel::Jarvis, Kernel::Stucki];
 

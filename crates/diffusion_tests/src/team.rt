@@ -4,7 +4,7 @@ use crate::windows::{Case, early_tiles, is_right, rows_of, wrong_beside};
 use diffusion_kernel::Kernel;
 use slab_fixtures::{LEVEL_SLAB, Measure, MeetingGate, known_rows, measured};
 use std::sync::atomic::{AtomicU64, Ordering};
-use wavefront_team::OpenGate;
+use worker_team::OpenGate;
 
 // A slab of one ink and amounts 100: five columns and three bands of tiles.
 const LEVEL: Case = Case {

@@ -13,7 +13,8 @@ use std::process::Abort;
 use std::sync::atomic::{AtomicU64, Ordering};
 use std::thread::Threads;
 use tile_border::{BottomEdge, TopEdges};
-use wavefront_team::{DotsSoFar, Gate, OpenGate, Team, diffuse, diffuse_beside};
+use wavefront_team::{DotsSoFar, diffuse, diffuse_beside};
+use worker_team::{Gate, OpenGate, Team};
 
 // Rows of the planes above the window.
 const ABOVE: u32 = 3;

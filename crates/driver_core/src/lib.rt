@@ -38,4 +38,4 @@ pub use page_halftoner::Halftoner;
 pub use print::{Printed, print_one};
 pub use running::{run, tell};
 pub use tile_shape::Place;
-pub use wavefront_team::{Gate, OpenGate};
+pub use worker_team::{Gate, OpenGate};

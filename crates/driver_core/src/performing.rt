@@ -14,8 +14,8 @@ use driver_answer::Answer;
 use ink_meter::Meter;
 use std::alloc::Global;
 use std::thread::Threads;
-use wavefront_team::{Gate, Team};
 use weave_base::{Sink, Source};
+use worker_team::{Gate, Team};
 
 /// Does a prepared command. `Err` is the answer where it is not done.
 pub fn perform<R: Threads + Sync, S: Source, K: Sink, G: Gate + Sync>(

@@ -14,8 +14,8 @@ use driver_answer::Answer;
 use ink_meter::Meter;
 use std::alloc::Global;
 use std::thread::Threads;
-use wavefront_team::Gate;
 use weave_base::{Shelf, Sink, Source, Words, put_all};
+use worker_team::Gate;
 
 // All of a run except the error line; `Err` is the answer of a run that is not done.
 fn work<R: Threads + Sync, S: Source, K: Sink, F: Shelf, G: Gate + Sync>(

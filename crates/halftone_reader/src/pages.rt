@@ -24,8 +24,8 @@ use pwg_definitions::PageForm;
 use pwg_stream::{PageReader, StreamStop};
 use std::alloc::Global;
 use std::thread::Threads;
-use wavefront_team::{Gate, Team};
 use weave_base::Source;
+use worker_team::{Gate, Team};
 
 /// A page that was read.
 #[derive(Drop)]

@@ -12,8 +12,8 @@ use page_halftoner::{Diffuser, Filler};
 use pwg_stream::{PageReader, StreamStop};
 use raw_rows::RawRows;
 use std::thread::Threads;
-use wavefront_team::{Gate, Team};
 use weave_base::Source;
+use worker_team::{Gate, Team};
 
 /// Reads lines of the page into the slab until it is full or the page has no more. Where the slab before had no room
 /// for the last repeats of a line, these come first.

@@ -21,7 +21,8 @@ use std::alloc::Global;
 use std::marker::Model;
 use std::thread::Threads;
 use tile_border::TopEdges;
-use wavefront_team::{DotsSoFar, Gate, Team, diffuse_beside};
+use wavefront_team::{DotsSoFar, diffuse_beside};
+use worker_team::{Gate, Team};
 
 /// The dots of a page's window so far. Contracts see the kernel, the dots, the bottom edges of the last diffused
 /// rows, and whether a call answered `Memory`.

@@ -18,7 +18,7 @@ use printer_profile::{PageForm, Profile};
 use std::alloc::Global;
 use std::marker::Model;
 use std::thread::Threads;
-use wavefront_team::{Gate, Team};
+use worker_team::{Gate, Team};
 
 /// A page that is halftoned line by line. Contracts see the profile, the form, the kernel, the number of lines so
 /// far, which lists of lines it stands for, and whether a call answered `Memory`.

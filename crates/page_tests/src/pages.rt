@@ -14,8 +14,8 @@ use std::alloc::Global;
 use std::process::Abort;
 use std::test::Fail;
 use std::thread::Threads;
-use wavefront_team::{OpenGate, Team};
 use weave_base::MemSink;
+use worker_team::{OpenGate, Team};
 
 /// In which way a head goes over a page.
 #[derive(Clone, Copy, Debug, Drop)]

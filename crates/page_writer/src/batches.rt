@@ -14,8 +14,8 @@ use crate::room::Batches;
 use crate::sending::put_coded_strokes;
 use std::mem;
 use std::thread::Threads;
-use wavefront_team::run_beside;
 use weave_base::{Failed, Sink};
+use worker_team::run_beside;
 
 impl Run {
     /// Where the strokes of a piece begin, and those of the piece before it end.

@@ -2,7 +2,7 @@
 use crate::coded::Piece;
 use crate::coding::code_strokes;
 use crate::page_strokes::Strokes;
-use wavefront_team::Share;
+use worker_team::Share;
 
 /// A piece, and the page that its strokes are of.
 #[derive(Drop)]

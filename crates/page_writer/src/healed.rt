@@ -28,8 +28,8 @@ use dot_planes::Planes;
 use printer_profile::{PageForm, Profile, checked_can_print};
 use std::alloc::Global;
 use std::thread::Threads;
-use wavefront_team::Team;
 use weave_base::Sink;
+use worker_team::Team;
 
 /// Writes the job of a page whose dots are in planes with the nozzles of `dead` dead: the passes of the head without
 /// these nozzles, and strokes in which live nozzles make up for them. It gives the number of bytes and rasters. The

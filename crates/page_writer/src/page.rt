@@ -25,9 +25,9 @@ use dot_planes::Planes;
 use printer_profile::{PageForm, Profile, checked_can_print};
 use std::alloc::Global;
 use std::thread::Threads;
-use wavefront_team::Team;
 use weave_base::Sink;
 use weave_plan::Plan;
+use worker_team::Team;
 
 /// Writes the job of a page whose dots are in planes, and gives the number of its bytes and rasters: graphics mode
 /// and the sheet, then the passes of the head over the page's window that have a dot, and the end of the sheet (ESC/P

@@ -29,8 +29,8 @@ use printer_profile::{PageForm, Profile, checked_can_print};
 use shingle_plan::ShinglePlan;
 use std::alloc::Global;
 use std::thread::Threads;
-use wavefront_team::Team;
 use weave_base::Sink;
+use worker_team::Team;
 
 /// Writes the job of a page whose dots are in planes, each row of them in two passes of the head: its even columns in
 /// one, and its odd columns in the other. It gives the number of bytes and rasters. `shingle_fits` tests the head.

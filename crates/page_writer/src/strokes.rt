@@ -29,8 +29,8 @@ use dot_planes::Planes;
 use printer_profile::{PageForm, Profile};
 use std::alloc::Global;
 use std::thread::Threads;
-use wavefront_team::Team;
 use weave_base::{Failed, Sink, put_all};
+use worker_team::Team;
 
 /// Why a page was not written whole.
 #[derive(Clone, Copy, Debug, PartialEq, Eq)]

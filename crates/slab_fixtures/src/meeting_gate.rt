@@ -1,7 +1,7 @@
 //! A gate at which two tiles meet.
 use std::sync::atomic::{AtomicU64, Ordering};
 use tile_shape::Place;
-use wavefront_team::Gate;
+use worker_team::Gate;
 
 // How many turns a tile waits for the other at most.
 const TURNS: u32 = 100_000_000;

@@ -9,7 +9,8 @@ use std::alloc::Global;
 use std::thread::Threads;
 use std::time::Instant;
 use tile_border::TopEdges;
-use wavefront_team::{OpenGate, Team, diffuse};
+use wavefront_team::diffuse;
+use worker_team::{OpenGate, Team};
 
 // The columns of A4 at 360 dots an inch.
 const WIDTH: u32 = 2976;

@@ -12,8 +12,8 @@ use pwg_definitions::MOST_ROWS;
 use pwg_stream::{PageReader, StreamStop};
 use std::alloc::Global;
 use std::thread::Threads;
-use wavefront_team::{OpenGate, Team};
 use weave_base::Source;
+use worker_team::{OpenGate, Team};
 
 /// How far a page is taken.
 #[derive(Clone, Copy, PartialEq, Eq)]

@@ -4,7 +4,7 @@ use Rattle.std.proofs.Common.{subst, length-append, ◌∙◌}
 use Rattle.std.proofs.Math.ListN.{get_or-append}
 use Rattle.std.proofs.Math.Seq.{get_or-append_seam}
 use Rattle.std.proofs.lemmas.Bool.{cases_lt}
-use Rattle.wavefront_team.specs.Shares.{AllReady}
+use Rattle.worker_team.specs.Shares.{AllReady}
 
 -- one share more
 pub ready_more : {W : Type 0} (P : W → Type 0) (xs ys : List W) (x : W) → ys ≡ xs ++ x ∷ [] → AllReady P xs → P x → AllReady P ys

@@ -1,6 +1,5 @@
 pub mod Dots
 pub mod Slabs
-pub mod Shares
 pub mod Passes
 pub mod Laying
 pub mod SoFar

@@ -9,11 +9,9 @@ ghost use Rattle.tile_board.specs.Board.{slab};
 ghost use Rattle.tile_board.specs.Slabs.{shape_of};
 ghost use Rattle.tile_shape.specs.Geometry.{IsShape};
 ghost use Rattle.wavefront_team.specs.Passes.{HasAll, HasPostedAll, IsFirst, IsRest, IsShareOf, IsWorkerOf, desk};
-ghost use Rattle.wavefront_team.specs.Shares.{AllReady};
+ghost use Rattle.worker_team.specs.Shares.{AllReady};
 ghost use Rattle.tile_board.specs.Board.{IsPassOf};
 
-use crate::beside::run_beside;
-use crate::gate::{Gate, Team};
 use crate::laying::lay_tiles;
 use crate::share::{Lends, Lent, TileShare};
 use crate::so_far::DotsSoFar;
@@ -27,6 +25,7 @@ use std::thread::Threads;
 use tile_board::{Board, Closed, Pass};
 use tile_border::TopEdges;
 use tile_shape::Shape;
+use worker_team::{Gate, Team, run_beside};
 
 /// Diffuses a slab below its top by a team's workers, and puts its dots into the planes from row `at` on. The answer is
 /// the bottom edges of its last band: the top of the rows below it, where its rows are whole bands of 32. That more

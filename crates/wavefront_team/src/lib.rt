@@ -16,9 +16,7 @@
 //! once, each enters once, and the dots are the same however long tiles are held back.
 #![tactic(auto)]
 
-mod beside;
 mod diffusing;
-mod gate;
 mod laying;
 mod share;
 mod so_far;
@@ -26,7 +24,5 @@ mod waiting;
 mod work;
 mod worker;
 
-pub use beside::{Share, run_beside};
 pub use diffusing::{diffuse, diffuse_beside};
-pub use gate::{Gate, OpenGate, Team};
 pub use so_far::DotsSoFar;

@@ -6,12 +6,11 @@ ghost use Rattle.std.specs.Prelude.{◌≡◌};
 ghost use Rattle.wavefront_team.specs.Passes.{Desk, IsWorkerOf};
 ghost use Rattle.wavefront_team.specs.Passes.{desk as desk_of};
 
-use crate::beside::Share;
-use crate::gate::Gate;
 use crate::worker::Worker;
 use dot_planes::TileRows;
 use tile_board::Board;
 use tile_shape::Shape;
+use worker_team::{Gate, Share};
 
 /// What the workers of a board are lent.
 pub(crate) trait Lends {

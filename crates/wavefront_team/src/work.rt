@@ -7,11 +7,11 @@ ghost use Rattle.tile_board.specs.Tasks.{IsTaskOf};
 ghost use Rattle.tile_shape.specs.Geometry.{IsShape, bands_of};
 ghost use Rattle.wavefront_team.specs.Passes.{HasAll, HasPosted, HasPostedAll, desk};
 
-use crate::gate::Gate;
 use dot_planes::TileRows;
 use tile_board::{Board, Claim, Pass};
 use tile_border::{Task, TileRoom};
 use tile_shape::{Place, Shape};
+use worker_team::Gate;
 
 /// Works the tile that a pass holds, once the gate lets it in, and posts it.
 pub(crate) fn work_held<G: Gate, A: TileRows>(

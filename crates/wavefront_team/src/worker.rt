@@ -5,7 +5,6 @@ ghost use Rattle.tile_board.specs.Slabs.{shape_of};
 ghost use Rattle.tile_shape.specs.Geometry.{IsShape, IsTile};
 ghost use Rattle.wavefront_team.specs.Passes.{IsWorkerOf, desk};
 
-use crate::gate::Gate;
 use crate::work::work_held;
 use base_definitions::Memory;
 use dot_planes::TileRows;
@@ -14,6 +13,7 @@ use std::thread::yield_now;
 use tile_board::{Board, Claim, Pass};
 use tile_border::TileRoom;
 use tile_shape::{Place, Shape};
+use worker_team::Gate;
 
 // A worker that gets no tile in this many claims leaves the rest to the caller.
 const MOST_CLAIMS: u32 = 16_777_216;

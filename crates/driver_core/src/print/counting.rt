@@ -12,7 +12,7 @@ use crate::print::ink_count::InkCount;
 use dot_planes::Planes;
 use ink_meter::{InkCounts, InkSet, count_dots};
 use std::thread::Threads;
-use wavefront_team::{Team, run_beside};
+use worker_team::{Team, run_beside};
 
 /// The number of dots of each ink in planes of these inks. An ink outside the set has none. Where there are as many
 /// workers as inks, each counts one.

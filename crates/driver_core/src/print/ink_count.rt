@@ -1,6 +1,6 @@
 //! One ink of a page, which one worker counts.
 use dot_planes::Planes;
-use wavefront_team::Share;
+use worker_team::Share;
 
 /// An ink by its place in the planes, and the number of its dots once it is counted.
 #[derive(Drop)]

@@ -16,8 +16,8 @@ use job_words::Job;
 use printer_profile::Profile;
 use std::alloc::Global;
 use std::thread::Threads;
-use wavefront_team::{Gate, Team};
 use weave_base::{Sink, Source};
+use worker_team::{Gate, Team};
 
 /// How the printing of a stream ended, and how many of its pages were written whole.
 #[derive(Clone, Copy, Debug, PartialEq, Eq)]

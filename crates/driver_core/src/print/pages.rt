@@ -20,8 +20,8 @@ use printer_profile::Profile;
 use pwg_stream::{MOST_PAGES, PageReader, StreamStop};
 use std::alloc::Global;
 use std::thread::Threads;
-use wavefront_team::{Gate, Team};
 use weave_base::{Sink, Source};
+use worker_team::{Gate, Team};
 
 /// The answer where the stream stops.
 pub fn stream_answer(stop: StreamStop) -> Answer

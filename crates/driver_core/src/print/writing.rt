@@ -22,8 +22,8 @@ use page_writer::{PageForm, PageSum, Planes, WriteStop, write_healed, write_page
 use printer_profile::Profile;
 use std::alloc::Global;
 use std::thread::Threads;
-use wavefront_team::Team;
 use weave_base::Sink;
+use worker_team::Team;
 
 /// Writes the job of a page whose dots are in planes: in shingled passes where the job asks for them, around its dead
 /// nozzles where it names some, else in interleaved passes. The team's workers code it.

@@ -32,8 +32,8 @@ use printer_profile::{Profile, checked_can_print};
 use pwg_stream::{MOST_PAGES, PageReader};
 use std::alloc::Global;
 use std::thread::Threads;
-use wavefront_team::{Gate, Team};
 use weave_base::Sink;
+use worker_team::{Gate, Team};
 
 // The bytes and the rasters of the job so far.
 #[derive(Clone, Copy)]

@@ -11,7 +11,7 @@ use pwg_definitions::Kind;
 use std::alloc::Global;
 use std::process::Abort;
 use std::thread::Threads;
-use wavefront_team::{OpenGate, Team};
+use worker_team::{OpenGate, Team};
 
 // A printer with these inks, and with limits, curves and margins.
 fn printer(inks: InkSet) -> Profile {

@@ -8,8 +8,8 @@ use std::alloc::Global;
 use std::process::Abort;
 use std::test::Fail;
 use std::thread::Threads;
-use wavefront_team::{OpenGate, Team};
 use weave_base::MemSource;
+use worker_team::{OpenGate, Team};
 
 /// What is not 0 in the numbers of a header for eight columns and two lines of grey, by places in a stream, in which
 /// the header begins at byte 4 (PWG 5102.4, section 4.3).

@@ -1,6 +1,6 @@
 use Rattle.std.proofs.Common.{length, vec_len}
 use Rattle.wavefront_team.specs.Passes.{IsRest, IsWorkerOf, desk}
-use Rattle.wavefront_team.specs.Shares.{AllReady}
+use Rattle.worker_team.specs.Shares.{AllReady}
 use Rattle.wavefront_team.proofs.diffusing.join_all.Given as goal
 
 abbrev pub invariant-loop-share : goal.invariant-loop-share

@@ -1,7 +1,7 @@
 use Rattle.std.proofs.Common.{◌≡◌, ◌≤◌, length, vec_capacity}
 use Rattle.tile_board.specs.Board.{view}
 use Rattle.wavefront_team.specs.Passes.{IsRest, IsShareOf, desk}
-use Rattle.wavefront_team.specs.Shares.{AllReady}
+use Rattle.worker_team.specs.Shares.{AllReady}
 use Rattle.wavefront_team.proofs.diffusing.shares_of.Given as goal
 
 abbrev pub invariant-loop : goal.invariant-loop

@@ -1,6 +1,6 @@
 //! Shares of work in threads of their own, and the errand of the caller beside them.
 ghost use denote.Param.Send.{IsSend, IsSync};
-ghost use Rattle.wavefront_team.specs.Shares.{AllReady, AllWorked};
+ghost use Rattle.worker_team.specs.Shares.{AllReady, AllWorked};
 ghost use Rattle.std.specs.Prelude.{length, ◌≡◌};
 
 use std::thread::{Threads, join_mut};

@@ -1,6 +1,6 @@
 use Rattle.std.proofs.Common.{List, arith, subst, suc}
-use Rattle.wavefront_team.specs.Shares.{AllReady}
-use Rattle.wavefront_team.proofs.beside.+workers.Goals as goal
+use Rattle.worker_team.specs.Shares.{AllReady}
+use Rattle.worker_team.proofs.beside.+workers.Goals as goal
 
 pub run_beside-run_first-requires-clause-rest : goal.run_beside-run_first-requires-clause-rest
 run_beside-run_first-requires-clause-rest g t c κs within = λ k d h.

@@ -18,7 +18,7 @@ impl Gate for OpenGate {
     }
 }
 
-/// What slabs are diffused by.
+/// Who works on a page.
 #[derive(Drop)]
 pub struct Team<'a, R, G> {
     /// What starts threads.

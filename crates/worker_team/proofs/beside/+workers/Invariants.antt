@@ -1,5 +1,5 @@
 use Rattle.std.proofs.Common.{◌+◌, ◌*◌, length}
-use Rattle.wavefront_team.proofs.beside.+workers.Given as goal
+use Rattle.worker_team.proofs.beside.+workers.Given as goal
 
 abbrev pub decreases-run_beside : goal.decreases-run_beside
 decreases-run_beside g l = 3 * length l.shares.now
