@@ -82,18 +82,18 @@ pub parts_as : (m : ℕ) (y z : ℤ) → y ≡ z → IsParts m z → IsParts m y
 parts_as m y z e h = subst (IsParts m) (sym e) h
 
 -- a division of a number that is raised to 0 or above
-pub raised_quotient : (z : ℤ) (d n : ℕ) → 1 ≤ d → IsParts d z → pos n ≡ z +ℤ pos (2040 * d)
+pub raised_quotient : (z : ℤ) (d n : ℕ) → 1 ≤ d → pos n ≡ z +ℤ pos (2040 * d)
     → pos (n / d) -ℤ pos 2040 ≡ int_div_euclid z (pos d)
-raised_quotient (pos a) d n some parts is =
+raised_quotient (pos a) d n some is =
     let sum : n ≡ a + d * 2040 = omega (arith, ints) in
     let part : n / d ≡ a / d + 2040 = ap (λ m. m / d) sum ∙ add-mul-div_left a 2040 some in
     omega (arith, ints)
-raised_quotient (negsuc a) d n some parts is =
+raised_quotient (negsuc a) d n some is =
     let q : ℕ = a / d in
     let r : ℕ = a % d in
     let whole : d * q + r ≡ a = omega arith in
     let left : r < d = omega arith in
-    let low : a < 2040 * d = omega (arith, ints, parts.low) in
+    let low : a < 2040 * d = omega (arith, ints, is) in
     let few : q < 2040 = (div-lt_iff_lt-mul some).1 low in
     let s : ℕ = 2039 - q in
     let both : s + q ≡ 2039 = omega arith in
@@ -112,6 +112,6 @@ pub quotient_is : (z : ℤ) (d : ℕ) → 1 ≤ d → d ≤ 48 → IsParts d z
 quotient_is z d some few parts =
     let n : ℕ = nat_abs (raised z d) in
     let is : pos n ≡ z +ℤ pos (2040 * d) = omega (arith, ints, parts.low, parts.high) in
-    let q = raised_quotient z d n some parts is in
+    let q = raised_quotient z d n some is in
     let range : InRange (int_div_euclid z (pos d)) = quotient_in z d some parts in
     omega (arith, ints, q, range.low, range.high)

@@ -3,6 +3,7 @@ use Rattle.std.specs.Prelude.{ℕ, ℤ, pos, negsuc, ◌+ℤ◌, ◌==◌, List,
 use Rattle.diffusion_definitions.specs.Diffusion.{Table, floyd, jarvis, stucki}
 use Rattle.diffusion_kernel.specs.declared.tables.Kernel.{Kernel}
 use Rattle.diffusion_kernel.specs.declared.tables.Kernel.TheVariants.{Floyd, Jarvis, Stucki}
+use Rattle.diffusion_kernel.specs.declared.tables.Shares.{Shares}
 use Rattle.diffusion_kernel.specs.declared.tables.Weight.{Weight}
 
 -- the published table of a kernel
@@ -10,6 +11,10 @@ abbrev pub table_of : Kernel → Table
 table_of Floyd = floyd
 table_of Jarvis = jarvis
 table_of Stucki = stucki
+
+-- the table that these shares are
+abbrev pub table_from : Shares → Table
+table_from s = record { right = s.right; below = s.below; below2 = s.below2 }
 
 -- the shares of one row from place dx on, without those that are 0
 abbrev pub row_weights : ℤ → ℤ → List ℕ → List Weight

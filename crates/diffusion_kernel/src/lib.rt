@@ -7,4 +7,4 @@ mod rule;
 mod tables;
 
 pub use rule::{Dot, Near};
-pub use tables::{Kernel, Weight};
+pub use tables::{Kernel, Shares, Weight};

@@ -1,12 +1,12 @@
 //! The dot and the error of one pixel.
 ghost use Rattle.diffusion_definitions.specs.Diffusion.{EachInRange, InRange, IsParts, divisor, error_of, is_dot};
 ghost use Rattle.diffusion_definitions.specs.Diffusion.{mirrored, value, weighted, weighted_from};
-ghost use Rattle.diffusion_kernel.specs.Rows.{five_of, table_from};
-ghost use Rattle.diffusion_kernel.specs.Tables.{table_of};
+ghost use Rattle.diffusion_kernel.specs.Rows.{at_places, five_of};
+ghost use Rattle.diffusion_kernel.specs.Tables.{table_from, table_of};
 ghost use Rattle.std.specs.Int.{int_div_euclid};
 ghost use Rattle.std.specs.Prelude.{negsuc, pos, ◌*ℤ◌, ◌+ℤ◌, ◌≡◌, ◌≤ℤ◌, ◌≤◌};
 
-use crate::tables::{FLOYD, JARVIS, Kernel, STUCKI, Shares};
+use crate::tables::{Kernel, Shares};
 
 /// The errors near the pixel at x, each from -2040 to 2039.
 #[derive(Clone, Copy, Debug, PartialEq, Eq)]
@@ -58,8 +58,8 @@ fn weigh(shares: &Shares, errs: &Near) -> i32
     requires same { EachInRange errs.now.same }
     requires up1 { EachInRange errs.now.up1 }
     requires up2 { EachInRange errs.now.up2 }
-    ensures parts { result ≡ weighted (table_from shares.now) errs.now.same errs.now.up1 errs.now.up2 }
-    ensures in_range { IsParts (divisor (table_from shares.now)) result }
+    ensures parts { result ≡ weighted (at_places (table_from shares.now)) errs.now.same errs.now.up1 errs.now.up2 }
+    ensures in_range { IsParts (divisor (at_places (table_from shares.now))) result }
 {
     parts(shares.right[0], errs.same[0])
         + parts(shares.right[1], errs.same[1])
@@ -113,11 +113,8 @@ impl Kernel {
             (pos (divisor (table_of self))) }
         ensures in_range { InRange result }
     {
-        match self {
-            Kernel::Floyd => quotient(weigh(&FLOYD, errs), 16),
-            Kernel::Jarvis => quotient(weigh(&JARVIS, errs), 48),
-            Kernel::Stucki => quotient(weigh(&STUCKI, errs), 42),
-        }
+        let shares = self.shares();
+        quotient(weigh(&shares, errs), u32::from(shares.divisor))
     }
 
     /// The dot and the error of a pixel of amount `a`. Errors beside the plane and above the page are 0.

@@ -24,75 +24,76 @@ pub struct Weight {
 
 /// The shares of a pixel's error as a published table has them, with those that are 0.
 #[derive(Clone, Copy)]
-pub(crate) struct Shares {
+pub struct Shares {
+    /// The parts that the error is divided into: the sum of all shares.
+    pub divisor: u8,
     /// One and two pixels to the right.
-    pub(crate) right: [u8; 2],
+    pub right: [u8; 2],
     /// One row below, from two pixels to the left to two to the right.
-    pub(crate) below: [u8; 5],
+    pub below: [u8; 5],
     /// The same two rows below.
-    pub(crate) below2: [u8; 5],
+    pub below2: [u8; 5],
 }
 
-pub(crate) const FLOYD: Shares = Shares {
+const FLOYD: Shares = Shares {
+    divisor: 16,
     right: [7, 0],
     below: [0, 3, 5, 1, 0],
     below2: [0, 0, 0, 0, 0],
 };
 
-pub(crate) const JARVIS: Shares = Shares {
+const JARVIS: Shares = Shares {
+    divisor: 48,
     right: [7, 5],
     below: [3, 5, 7, 5, 3],
     below2: [1, 3, 5, 3, 1],
 };
 
-pub(crate) const STUCKI: Shares = Shares {
+const STUCKI: Shares = Shares {
+    divisor: 42,
     right: [8, 4],
     below: [2, 4, 8, 4, 2],
     below2: [1, 2, 4, 2, 1],
 };
 
-/// Weights, each written as (dx, dy, share).
+/// The weights of a table, of these places of its rows.
 macro_rules! weights {
-    ($(($dx:expr, $dy:expr, $share:expr)),*) => {
-        [$(Weight { dx: $dx, dy: $dy, share: $share }),*]
+    ($table:ident, right: $($right:literal)*, below: $($below:literal)*, below2: $($below2:literal)*) => {
+        [
+            $(Weight { dx: $right + 1, dy: 0, share: $table.right[$right] },)*
+            $(Weight { dx: $below - 2, dy: 1, share: $table.below[$below] },)*
+            $(Weight { dx: $below2 - 2, dy: 2, share: $table.below2[$below2] },)*
+        ]
     };
 }
 
-static FLOYD_WEIGHTS: [Weight; 4] = weights![(1, 0, 7), (-1, 1, 3), (0, 1, 5), (1, 1, 1)];
+static FLOYD_WEIGHTS: [Weight; 4] = weights!(FLOYD, right: 0, below: 1 2 3, below2:);
 
-static JARVIS_WEIGHTS: [Weight; 12] = weights![
-    (1, 0, 7),
-    (2, 0, 5),
-    (-2, 1, 3),
-    (-1, 1, 5),
-    (0, 1, 7),
-    (1, 1, 5),
-    (2, 1, 3),
-    (-2, 2, 1),
-    (-1, 2, 3),
-    (0, 2, 5),
-    (1, 2, 3),
-    (2, 2, 1)
-];
+static JARVIS_WEIGHTS: [Weight; 12] =
+    weights!(JARVIS, right: 0 1, below: 0 1 2 3 4, below2: 0 1 2 3 4);
 
-static STUCKI_WEIGHTS: [Weight; 12] = weights![
-    (1, 0, 8),
-    (2, 0, 4),
-    (-2, 1, 2),
-    (-1, 1, 4),
-    (0, 1, 8),
-    (1, 1, 4),
-    (2, 1, 2),
-    (-2, 2, 1),
-    (-1, 2, 2),
-    (0, 2, 4),
-    (1, 2, 2),
-    (2, 2, 1)
-];
+static STUCKI_WEIGHTS: [Weight; 12] =
+    weights!(STUCKI, right: 0 1, below: 0 1 2 3 4, below2: 0 1 2 3 4);
 
 impl Kernel {
-    ghost use Rattle.diffusion_kernel.specs.Tables.{table_of, weights_of};
-    ghost use Rattle.std.specs.Prelude.{◌≡◌};
+    ghost use Rattle.diffusion_definitions.specs.Diffusion.{divisor};
+    ghost use Rattle.diffusion_kernel.specs.Tables.{table_from, table_of, weights_of};
+    ghost use Rattle.std.specs.Prelude.{◌≡◌, ◌≤◌};
+
+    /// The kernel's published table.
+    #[inline(always)]
+    pub fn shares(self) -> Shares
+        ensures table { table_from result ≡ table_of self }
+        ensures divisor { result.divisor ≡ divisor (table_of self) }
+        ensures some { 1 ≤ result.divisor }
+        ensures most { result.divisor ≤ 48 }
+    {
+        match self {
+            Kernel::Floyd => FLOYD,
+            Kernel::Jarvis => JARVIS,
+            Kernel::Stucki => STUCKI,
+        }
+    }
 
     /// The shares of the kernel, row by row from above, and in each row from the left. Places that get no share are
     /// left out.

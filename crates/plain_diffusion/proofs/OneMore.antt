@@ -9,27 +9,13 @@ use Rattle.std.specs.Int.{int_div_euclid}
 use Rattle.diffusion_definitions.specs.Diffusion.{EachInRange, Errors, InRange, Table, divisor, error_of, five, inside, is_dot, on, value, value_at, weighted}
 use Rattle.diffusion_definitions.proofs.Ranges.{carried_in, five_in, none_in, two_in}
 use Rattle.diffusion_kernel.specs.Tables.{table_of}
-use Rattle.diffusion_kernel.specs.declared.tables.Kernel.{Kernel}
-use Rattle.diffusion_kernel.specs.declared.tables.Kernel.TheVariants.{Floyd, Jarvis, Stucki}
+use Rattle.diffusion_kernel.proofs.Printed.{IsPrinted, printed}
 use Rattle.diffusion_laws.proofs.Places.{taken_from}
 use Rattle.diffusion_laws.proofs.Solve.{errors_solve}
 use Rattle.plain_diffusion.specs.Fills.{above_of, amount_of}
 use Rattle.plain_diffusion.specs.Known.{AreDots, AreErrors, GivesInRange, errors_of, given_of, plane_of}
 use Rattle.plain_diffusion.specs.declared.fills.InkWindow.{InkWindow}
 use Rattle.plain_diffusion.proofs.Places.{row_more}
-
--- ---- tables
-
-pub record FewShares (k : Table) : Type 0 where
-  pub right : length k.right ≡ 2
-  pub below : length k.below ≡ 5
-  pub below2 : length k.below2 ≡ 5
-  pub some : 0 < divisor k
-
-pub few_shares : (k : Kernel) → FewShares (table_of k)
-few_shares Floyd = record { right = refl; below = refl; below2 = refl; some = omega arith }
-few_shares Jarvis = record { right = refl; below = refl; below2 = refl; some = omega arith }
-few_shares Stucki = record { right = refl; below = refl; below2 = refl; some = omega arith }
 
 -- ---- what the pixel at column x and row y has to show
 
@@ -38,7 +24,7 @@ pub value_is : (w : InkWindow) (y x : ℕ) (g : ℤ) → g ≡ given_of w y x
     ≡ pos (16 * amount_of w.fill x y) +ℤ int_div_euclid g (pos (divisor (table_of w.kernel)))
 value_is w y x g is =
     let k : Table = table_of w.kernel in
-    let few : FewShares k = few_shares w.kernel in
+    let few : IsPrinted k = printed w.kernel in
     taken_from k (plane_of w) (errors_of w) y x (omega (arith, few.right)) (omega (arith, few.below)) (omega (arith, few.below2))
     ∙ ap (λ z. pos (16 * amount_of w.fill x y) +ℤ int_div_euclid z (pos (divisor k))) (sym is)
 
@@ -68,7 +54,7 @@ carried_fits w y x g is fits =
     let up1 : List ℤ = five (e (y + 1)) (x + 2) in
     let up2 : List ℤ = five (e y) (x + 2) in
     let carried : ℤ = int_div_euclid (weighted k same up1 up2) (pos (divisor k)) in
-    let own : InRange carried = carried_in k same up1 up2 (few_shares w.kernel).some (two_fit w (y + 2) x fits.same)
+    let own : InRange carried = carried_in k same up1 up2 (printed w.kernel).some (two_fit w (y + 2) x fits.same)
     (five_fit w (y + 1) x fits.up1) (five_fit w y x fits.up2) in
     let both : pos (16 * amount_of w.fill x y) +ℤ carried
     ≡ pos (16 * amount_of w.fill x y) +ℤ int_div_euclid g (pos (divisor k)) = value_is w y x g is in

@@ -1,4 +1,3 @@
 pub mod Fills
-pub mod Shares
 pub mod Known
 pub mod Whole

@@ -10,7 +10,6 @@
 mod definition;
 mod fills;
 mod pixels;
-mod shares;
 
 pub use definition::Definition;
 pub use fills::{Above, Amounts, InkWindow, amount_at};

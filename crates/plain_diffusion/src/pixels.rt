@@ -1,14 +1,14 @@
 //! The pixels of a window, row by row and in each row from the left.
-ghost use Rattle.diffusion_definitions.specs.Diffusion.{InRange, IsParts, error_of, is_dot, weighted_from};
+ghost use Rattle.diffusion_definitions.specs.Diffusion.{InRange, IsParts, divisor, error_of, is_dot, weighted_from};
 ghost use Rattle.diffusion_definitions.specs.Diffusion.{value_at as value_of};
 ghost use Rattle.diffusion_kernel.specs.Tables.{table_of};
 ghost use Rattle.plain_diffusion.specs.Known.{AreDots, AreErrors, GivesInRange, IsReached, errors_of, given_of};
 ghost use Rattle.plain_diffusion.specs.Known.{plane_of};
+ghost use Rattle.std.specs.Int.{int_div_euclid};
 ghost use Rattle.std.specs.Prelude.{IfSome, [], length, negsuc, pos, ℕ, ◌*ℤ◌, ◌*◌, ◌++◌, ◌+◌, ◌-◌, ◌<◌, ◌∷◌, ◌≡◌, ◌≤ℤ◌, ◌≤◌};
 
 use crate::fills::{InkWindow, amount_at, error_above};
-use crate::shares::{mean, shares_of};
-use diffusion_kernel::Dot;
+use diffusion_kernel::{Dot, Kernel};
 
 // The error at column x and row y, beside the window too.
 fn pixel_error(window: &InkWindow, errors: &[i16], x: usize, y: usize) -> i16
@@ -83,11 +83,18 @@ fn given(window: &InkWindow, errors: &[i16], x: u32, y: u32) -> i32
     ensures fits { GivesInRange window.now y x }
     ensures few_parts { IsParts 3825 result }
 {
-    let shares = shares_of(window.kernel);
+    let shares = window.kernel.shares();
     let (n, t) = (x as usize, y as usize);
     row_parts(&shares.right, window, errors, t + 2, n + 3)
         + row_parts(&shares.below, window, errors, t + 1, n + 6)
         + row_parts(&shares.below2, window, errors, t, n + 6)
+}
+
+// Parts of errors divided by the sum of a kernel's shares, rounded down.
+fn mean(kernel: Kernel, parts: i32) -> i32
+    ensures { result ≡ int_div_euclid parts (pos (divisor (table_of kernel))) }
+{
+    parts.div_euclid(i32::from(kernel.shares().divisor))
 }
 
 // What the pixel at column x and row y has to show, in sixteenths of an amount.

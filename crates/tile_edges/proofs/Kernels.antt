@@ -4,10 +4,9 @@ use Rattle.std.proofs.Common.{length, slice_index, inl, inr}
 use Rattle.std.proofs.lemmas.Bool.{cases_lt}
 use Rattle.std.proofs.lemmas.Int.{ints}
 use Rattle.std.specs.Int.{int_div_euclid}
-use Rattle.std.specs.List.{AllByRecursion}
 use Rattle.diffusion_definitions.specs.Diffusion.{Errors, Plane, Table, divisor, value_at, weighted_from}
 use Rattle.diffusion_laws.proofs.Places.{taken_from}
-use Rattle.tile_edges.specs.Reads.{GivesTo, HasShare, ReadsAt}
+use Rattle.tile_edges.specs.Reads.{GivesTo, HasAllShares, HasShare, ReadsAt}
 
 -- ---- the shares of a row
 
@@ -15,14 +14,6 @@ within_at : (shares : List ℕ) (i : ℕ) → 0 < slice_index shares i → i < l
 within_at [] i some = absurd (omega arith)
 within_at (s ∷ shares) zero some = omega arith
 within_at (s ∷ shares) (suc i) some = let h : i < length shares = within_at shares i some in omega arith
-
-abbrev AreAllGiven : List ℕ → Type 0
-AreAllGiven shares = AllByRecursion (λ s. 0 < s) shares
-
-given_at : (shares : List ℕ) (i : ℕ) → AreAllGiven shares → i < length shares → 0 < slice_index shares i
-given_at [] i all within = absurd (omega arith)
-given_at (s ∷ shares) zero all within = all.0
-given_at (s ∷ shares) (suc i) all within = given_at shares i all.1 (omega arith)
 
 -- ---- each share is read
 
@@ -52,37 +43,26 @@ gives_reads k x y m n narrow gives = elim gives [
 
 -- ---- and what is read is given, by a table with no share of 0
 
-pub record IsFull (k : Table) : Type 0 where
-  pub right : length k.right ≡ 2
-  pub below : length k.below ≡ 5
-  pub below2 : length k.below2 ≡ 5
-  pub all_right : AreAllGiven k.right
-  pub all_below : AreAllGiven k.below
-  pub all_below2 : AreAllGiven k.below2
-
-share_at : (shares : List ℕ) (n reach most : ℕ) → AreAllGiven shares → length shares ≡ most → n ≤ reach → reach + 1 ≤ n + most
+share_at : (shares : List ℕ) (n reach most : ℕ) → ((i : ℕ) → i < most → 0 < slice_index shares i) → n ≤ reach → reach + 1 ≤ n + most
     → HasShare shares n reach
-share_at shares n reach most all count near far = record {
-  share = reach - n;
-  some = given_at shares (reach - n) all (omega arith);
-  place = omega arith;
-}
+share_at shares n reach most all near far = record { share = reach - n; some = all (reach - n) (omega arith); place = omega arith }
 
-pub reads_gives : (k : Table) (x y m n : ℕ) → IsFull k → ReadsAt x y m n → GivesTo k x y m n
+pub reads_gives : (k : Table) (x y m n : ℕ) → HasAllShares k → ReadsAt x y m n → GivesTo k x y m n
 reads_gives k x y m n full reads = elim reads [
-  | inl same ↦ inl (same.0, share_at k.right n (x + 3) 2 full.all_right full.right same.2 (omega (arith, same.1)))
+  | inl same ↦ inl (same.0, share_at k.right n (x + 3) 2 full.right same.2 (omega (arith, same.1)))
   | inr above ↦ elim (cases_lt y m) [
-    | inl one ↦ inr (inl (omega (arith, above.1), share_at k.below n (x + 6) 5 full.all_below full.below above.3 (omega (arith, above.2))))
+    | inl one ↦ inr (inl (omega (arith, above.1), share_at k.below n (x + 6) 5 full.below above.3 (omega (arith, above.2))))
     | inr two ↦ inr (inr (
       omega (arith, above.0),
-      share_at k.below2 n (x + 6) 5 full.all_below2 full.below2 above.3 (omega (arith, above.2)),
+      share_at k.below2 n (x + 6) 5 full.below2 above.3 (omega (arith, above.2)),
     ))
   ]
 ]
 
 -- ---- no other error counts
 
-weighted-agree : (i : ℕ) (shares : List ℕ) (f g : ℕ → ℤ) → ((j : ℕ) → 0 < slice_index shares j → f (i + j) ≡ g (i + j))
+-- Sums by the same shares are equal where the errors with a share are.
+pub weighted-agree : (i : ℕ) (shares : List ℕ) (f g : ℕ → ℤ) → ((j : ℕ) → 0 < slice_index shares j → f (i + j) ≡ g (i + j))
     → weighted_from i shares f ≡ weighted_from i shares g
 weighted-agree i [] f g same = refl
 weighted-agree i (s ∷ shares) f g same =

@@ -20,6 +20,12 @@ abbrev pub GivesTo : Table → ℕ → ℕ → ℕ → ℕ → Type 0
 GivesTo k x y m n =
     ((m ≡ y + 2) × HasShare k.right n (x + 3)) ⊎ ((m ≡ y + 1) × HasShare k.below n (x + 6)) ⊎ ((m ≡ y) × HasShare k.below2 n (x + 6))
 
+-- A table has twelve shares above 0.
+pub record HasAllShares (k : Table) : Type 0 where
+  pub right : (i : ℕ) → i < 2 → 0 < slice_index k.right i
+  pub below : (i : ℕ) → i < 5 → 0 < slice_index k.below i
+  pub below2 : (i : ℕ) → i < 5 → 0 < slice_index k.below2 i
+
 -- a list of `rows` rows of `wide` errors has this error
 pub record HasError (rows wide : ℕ) (xs : List ℤ) (error : ℤ) : Type 0 where
   pub row : ℕ

@@ -1,8 +1,8 @@
 //! The errors that a pixel reads, and that its tile has each of them.
 ghost use Rattle.std.specs.Prelude.{List, length, ℕ, ℤ, ◌+◌, ◌≡◌, ◌≤◌, ◌↔◌};
-ghost use Rattle.diffusion_definitions.specs.Diffusion.{Errors, Plane, Table, floyd, jarvis, stucki, value_at};
+ghost use Rattle.diffusion_definitions.specs.Diffusion.{Errors, Plane, Table, value_at};
 ghost use Rattle.tile_edges.specs.Edges.{IsAbove, IsCorner, IsLeft};
-ghost use Rattle.tile_edges.specs.Reads.{GivesTo, IsAtHand, ReadsAt};
+ghost use Rattle.tile_edges.specs.Reads.{GivesTo, HasAllShares, IsAtHand, ReadsAt};
 ghost use Rattle.tile_shape.specs.Geometry.{IsAt, Reads};
 ghost use Rattle.tile_shape.specs.declared.tiles.Place.{Place};
 
@@ -11,12 +11,12 @@ pub fn pixels_are_read_at_their_places()
     ensures { (x y a b : ℕ) → (Reads x y a b ↔ ReadsAt x y (b + 2) (a + 4)) }
 {}
 
-/// Each share above 0 of a kernel's table gives an error at a place that is read. The tables of Jarvis, Judice and
-/// Ninke and of Stucki have a share for each such place.
+/// Each share above 0 of a table, whose rows are no longer than those of a printed one, gives an error at a place that
+/// is read. A table with all twelve shares above 0 has one for each such place.
 pub fn each_share_gives_an_error_that_is_read()
-    ensures floyd { (x y m n : ℕ) → GivesTo floyd x y m n → ReadsAt x y m n }
-    ensures jarvis { (x y m n : ℕ) → (GivesTo jarvis x y m n ↔ ReadsAt x y m n) }
-    ensures stucki { (x y m n : ℕ) → (GivesTo stucki x y m n ↔ ReadsAt x y m n) }
+    ensures read { (k : Table) (x y m n : ℕ) → length k.right ≤ 2 → length k.below ≤ 5 → length k.below2 ≤ 5
+        → GivesTo k x y m n → ReadsAt x y m n }
+    ensures given { (k : Table) (x y m n : ℕ) → HasAllShares k → ReadsAt x y m n → GivesTo k x y m n }
 {}
 
 /// What a pixel has to show depends only on errors that give to it by a share above 0.

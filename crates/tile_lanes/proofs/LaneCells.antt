@@ -1,13 +1,11 @@
 -- The cells of a field are right after a step, and so are the dots.
 use Rattle.std.proofs.Common.{ℕ, ℤ, Bool, true, false, ◌≡◌, ◌≢◌, ◌+◌, ◌-◌, ◌*◌, ◌/◌, ◌%◌, ◌^◌, ◌<◌, ◌≤◌, ◌∙◌, ◌&&◌}
 use Rattle.std.proofs.Common.{ap, refl, sym, arith, inl}
-use Rattle.std.proofs.Common.{inr, zero, suc, List, [], ◌∷◌, get_or}
+use Rattle.std.proofs.Common.{inr, zero, suc, List, [], ◌∷◌, get_or, slice_index}
 use Rattle.std.proofs.lemmas.Bool.{cases_lt, cases_Bool}
-use Rattle.diffusion_definitions.specs.Diffusion.{Errors, Plane, Solves, Table, error_of, five, floyd, is_dot, jarvis}
-use Rattle.diffusion_definitions.specs.Diffusion.{stucki, value, value_at}
+use Rattle.diffusion_definitions.specs.Diffusion.{Errors, Plane, Solves, Table, error_of, five, is_dot, value, value_at}
 use Rattle.diffusion_kernel.specs.Tables.{table_of}
 use Rattle.diffusion_kernel.specs.declared.tables.Kernel.{Kernel}
-use Rattle.diffusion_kernel.specs.declared.tables.Kernel.TheVariants.{Floyd, Jarvis, Stucki}
 use Rattle.tile_edges.specs.Edges.{skewed}
 use Rattle.tile_lanes.specs.Held.{error_held, same_in, up1_in, up2_in, value_in, value_in_row}
 use Rattle.tile_lanes.specs.Lanes.{HasAmounts, HasBits, HasLastDots, IsCleared, IsFilled, IsStep, IsStepped}
@@ -15,7 +13,7 @@ use Rattle.tile_lanes.specs.Paces.{cell_of, delay_of, first_group, pace_of}
 use Rattle.tile_lanes.specs.Rows.{bit, bit_of, is_place, shown}
 use Rattle.tile_lanes.specs.declared.lanes.pace.Pace.{Pace}
 use Rattle.tile_lanes.specs.declared.lanes.pace.Pace.TheVariants.{Level, Lagging}
-use Rattle.tile_lanes.proofs.HeldValues.{floyd_shares}
+use Rattle.tile_lanes.proofs.LevelRows.{four_count, level_apart}
 use Rattle.tile_lanes.proofs.Paces.{group_of}
 use Rattle.tile_lanes.proofs.RowCells.{five_are, none_right, place_inside, two}
 
@@ -87,34 +85,41 @@ up2_lagging e c j t r o y x xs f row small is_t is_y is_x =
     (near 172 (3 + o) (x + 2 + 3) (omega arith) (omega arith) (omega arith) (omega arith))
     (near 138 (4 + o) (x + 2 + 4) (omega arith) (omega arith) (omega arith) (omega arith))
 
-value_lagging : (k : Table) (e : Errors) (c j t r o y x a : ℕ) (xs : List ℕ) → IsFilled Lagging e c j t xs → r < 32
-    → o < 64
-    → o + r + 8 ≡ t → y ≡ 32 * j + r → x + 2 * r ≡ 64 * c + o
-    → value k a (same_in xs (34 * t + 2 + r)) (up1_in Lagging xs (34 * t + 2 + r)) (up2_in Lagging xs (34 * t + 2 + r))
+up2_level : (e : Errors) (c j t r o y x : ℕ) (xs : List ℕ) → IsFilled Level e c j t xs → r < 32 → o < 64
+    → o + 8 ≡ t → y ≡ 32 * j + r → x + 2 * r ≡ 64 * c + o
+    → up2_in Level xs (34 * t + 2 + r) ≡ five (e y) (x + 2)
+up2_level e c j t r o y x xs f row small is_t is_y is_x =
+    let at : ℕ = 34 * t + 2 + r in
+    let near = λ (d l n : ℕ). λ (b : l < 70) (v : l + 2 < t) (i : at - d ≡ 34 * (l + 2) + r) (u : n + 2 * r ≡ 64 * c + l + 2).
+    cell_right Level e c j t xs f r l (at - d) y n (omega arith) b v i is_y u in
+    five_are
+    (near 206 o (x + 2) (omega arith) (omega arith) (omega arith) (omega arith))
+    (near 172 (1 + o) (x + 2 + 1) (omega arith) (omega arith) (omega arith) (omega arith))
+    (near 138 (2 + o) (x + 2 + 2) (omega arith) (omega arith) (omega arith) (omega arith))
+    (near 104 (3 + o) (x + 2 + 3) (omega arith) (omega arith) (omega arith) (omega arith))
+    (near 70 (4 + o) (x + 2 + 4) (omega arith) (omega arith) (omega arith) (omega arith))
+
+-- The errors near a pixel, as they stand in the plane, give it its value.
+value_paced : (pace : Pace) (k : Table) (e : Errors) (c j t r o y x a : ℕ) (xs : List ℕ)
+    → (pace ≡ Level → slice_index k.below 0 ≡ 0) → IsFilled pace e c j t xs → r < 32
+    → o < 64 → o + delay_of pace r + 8 ≡ t → y ≡ 32 * j + r → x + 2 * r ≡ 64 * c + o
+    → value k a (same_in xs (34 * t + 2 + r)) (up1_in pace xs (34 * t + 2 + r)) (up2_in pace xs (34 * t + 2 + r))
     ≡ value k a (e (y + 2) (x + 3) ∷ e (y + 2) (x + 2) ∷ []) (five (e (y + 1)) (x + 2)) (five (e y) (x + 2))
-value_lagging k e c j t r o y x a xs f row small is_t is_y is_x =
+value_paced Level k e c j t r o y x a xs apart f row small is_t is_y is_x =
+    let at : ℕ = 34 * t + 2 + r in
+    let own : List ℤ = e (y + 2) (x + 3) ∷ e (y + 2) (x + 2) ∷ [] in
+    let up : ℕ → ℤ = e (y + 1) in
+    let step : o + 8 ≡ t = omega (arith, is_t) in
+    ap (λ s. value k a s (up1_in Level xs at) (up2_in Level xs at)) (same_right Level e c j t r o y x xs f row small is_t is_y is_x)
+    ∙ ap (λ u. value k a own u (up2_in Level xs at)) (up1_level e c j t r o y x xs f row small step is_y is_x)
+    ∙ four_count k a own (up2_in Level xs at) (up (x + 2)) (up (x + 2 + 1)) (up (x + 2 + 2)) (up (x + 2 + 3)) _ _ (apart refl)
+    ∙ ap (value k a own (five up (x + 2))) (up2_level e c j t r o y x xs f row small step is_y is_x)
+value_paced Lagging k e c j t r o y x a xs apart f row small is_t is_y is_x =
     let at : ℕ = 34 * t + 2 + r in
     let own : List ℤ = e (y + 2) (x + 3) ∷ e (y + 2) (x + 2) ∷ [] in
     ap (λ s. value k a s (up1_in Lagging xs at) (up2_in Lagging xs at)) (same_right Lagging e c j t r o y x xs f row small is_t is_y is_x)
     ∙ ap (λ u. value k a own u (up2_in Lagging xs at)) (up1_lagging e c j t r o y x xs f row small is_t is_y is_x)
     ∙ ap (value k a own (five (e (y + 1)) (x + 2))) (up2_lagging e c j t r o y x xs f row small is_t is_y is_x)
-
--- What a pixel shows among the errors of the field is what it shows among those of the plane.
-value_near : (kernel : Kernel) (e : Errors) (c j t r o y x a : ℕ) (xs : List ℕ) → IsFilled (pace_of kernel) e c j t xs
-    → r < 32 → o < 64
-    → o + delay_of (pace_of kernel) r + 8 ≡ t → y ≡ 32 * j + r → x + 2 * r ≡ 64 * c + o
-    → value_in kernel a xs (34 * t + 2 + r)
-    ≡ value (table_of kernel) a (e (y + 2) (x + 3) ∷ e (y + 2) (x + 2) ∷ []) (five (e (y + 1)) (x + 2)) (five (e y) (x + 2))
-value_near Floyd e c j t r o y x a xs f row small is_t is_y is_x =
-    let at : ℕ = 34 * t + 2 + r in
-    let up : ℕ → ℤ = e (y + 1) in
-    ap (λ s. value floyd a s (up1_in Level xs at) (up2_in Level xs at)) (same_right Level e c j t r o y x xs f row small is_t is_y is_x)
-    ∙ ap (λ u. value floyd a (e (y + 2) (x + 3) ∷ e (y + 2) (x + 2) ∷ []) u (up2_in Level xs at))
-    (up1_level e c j t r o y x xs f row small (omega (arith, is_t)) is_y is_x)
-    ∙ floyd_shares a (e (y + 2) (x + 3)) _ _ (up (x + 2)) _ (up (x + 2 + 1)) (up (x + 2 + 2)) (up (x + 2 + 3)) _ _
-    (up2_in Level xs at) (five (e y) (x + 2))
-value_near Jarvis e c j t r o y x a xs f row small is_t is_y is_x = value_lagging jarvis e c j t r o y x a xs f row small is_t is_y is_x
-value_near Stucki e c j t r o y x a xs f row small is_t is_y is_x = value_lagging stucki e c j t r o y x a xs f row small is_t is_y is_x
 
 value_right : (kernel : Kernel) (p : Plane) (e : Errors) (c j t r o : ℕ) (amounts xs : List ℕ)
     → HasAmounts (pace_of kernel) p c j 32 amounts
@@ -130,7 +135,7 @@ value_right kernel p e c j t r o amounts xs h f row small is_t place =
     let amount : get_or amounts (32 * (t - 8) + r) 0 ≡ p.amount y x = ap (λ m. get_or amounts m 0) there
     ∙ h.at r o row small place in
     ap (λ a. value_in kernel a xs (34 * t + 2 + r)) amount
-    ∙ value_near kernel e c j t r o y x (p.amount y x) xs f row small is_t refl (omega arith)
+    ∙ value_paced (pace_of kernel) (table_of kernel) e c j t r o y x (p.amount y x) xs (level_apart kernel) f row small is_t refl (omega arith)
 
 error_right : (kernel : Kernel) (p : Plane) (e : Errors) (c j t r o : ℕ) (amounts xs : List ℕ)
     → Solves (table_of kernel) p e → HasAmounts (pace_of kernel) p c j 32 amounts

@@ -2,6 +2,7 @@ pub mod RowCells
 pub mod Bits
 pub mod RowTile
 pub mod HeldValues
+pub mod LevelRows
 pub mod LaneSteps
 pub mod LaneClears
 pub mod LaneBits

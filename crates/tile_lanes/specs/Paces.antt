@@ -1,16 +1,14 @@
 -- How the rows of a tile go in step. Row r's pixel at offset o is one of step o + r + 8 where rows lag, else of step
 -- o + 8.
-use Rattle.std.specs.Prelude.{ℕ, ◌+◌, ◌*◌}
+use Rattle.std.specs.Prelude.{ℕ, ◌+◌, ◌*◌, ◌==◌, if◌then◌else◌, slice_index}
+use Rattle.diffusion_kernel.specs.Tables.{table_of}
 use Rattle.diffusion_kernel.specs.declared.tables.Kernel.{Kernel}
-use Rattle.diffusion_kernel.specs.declared.tables.Kernel.TheVariants.{Floyd, Jarvis, Stucki}
 use Rattle.tile_lanes.specs.declared.lanes.pace.Pace.{Pace}
 use Rattle.tile_lanes.specs.declared.lanes.pace.Pace.TheVariants.{Level, Lagging}
 
--- only Floyd and Steinberg's kernel shares nothing between pixels of one offset
+-- Rows are level if pixels of one offset share nothing: the one below is two to the left.
 abbrev pub pace_of : Kernel → Pace
-pace_of Floyd = Level
-pace_of Jarvis = Lagging
-pace_of Stucki = Lagging
+pace_of kernel = if slice_index (table_of kernel).below 0 == 0 then Level else Lagging
 
 -- how many steps row r is behind row 0
 abbrev pub delay_of : Pace → ℕ → ℕ

@@ -252,11 +252,7 @@ impl Field {
             let error = self.errors[field_at(row.wrapping_sub(dy), from) % 2380];
             parts = parts.wrapping_add(i32::from(weight.share).wrapping_mul(error));
         }
-        match kernel {
-            Kernel::Floyd => parts.div_euclid(16),
-            Kernel::Jarvis => parts.div_euclid(48),
-            Kernel::Stucki => parts.div_euclid(42),
-        }
+        parts.div_euclid(i32::from(kernel.shares().divisor))
     }
 
     // Works the n-th place of the tile, by row and then offset.

@@ -177,11 +177,7 @@ fn given(kernel: Kernel, errors: &[i32], width: u32, x: u32, y: u32) -> i32 {
         let error = error_at(errors, width, from_x, from_y);
         parts = parts.wrapping_add(i32::from(weight.share).wrapping_mul(error));
     }
-    match kernel {
-        Kernel::Floyd => parts.div_euclid(16),
-        Kernel::Jarvis => parts.div_euclid(48),
-        Kernel::Stucki => parts.div_euclid(42),
-    }
+    parts.div_euclid(i32::from(kernel.shares().divisor))
 }
 
 // How many places of the window have a dot where there should be none, or none where there should be one. Each line of

@@ -7,8 +7,7 @@ use diffusion_kernel::Kernel;
 /// How the rows of a tile go in step.
 #[derive(Clone, Copy)]
 pub(crate) enum Pace {
-    /// All rows are at one offset. No pixel may read an error at its own offset, as none does by Floyd and Steinberg's
-    /// shares.
+    /// All rows are at one offset. No pixel may read an error at its own offset: two to the right in the row above.
     Level,
     /// Each row is one offset behind the row above it.
     Lagging,

@@ -1,6 +1,7 @@
 use Rattle.std.proofs.Common.{lit≤}
 use Rattle.diffusion_definitions.proofs.Ranges.{weighted_in}
-use Rattle.diffusion_kernel.specs.Rows.{table_from}
+use Rattle.diffusion_kernel.specs.Rows.{at_places}
+use Rattle.diffusion_kernel.specs.Tables.{table_from}
 use Rattle.diffusion_kernel.proofs.Sums.{fits, near_sum, parts_as, plus, share_is}
 use Rattle.diffusion_kernel.proofs.rule.weigh.Goals as goal
 
@@ -27,5 +28,5 @@ returns-clause-parts c =
 pub returns-clause-in_range : goal.returns-clause-in_range
 returns-clause-in_range c =
     parts_as _ _ _ (returns-clause-parts c)
-    (weighted_in (table_from c.args.shares.now) c.args.errs.now.same c.args.errs.now.up1 c.args.errs.now.up2 c.requires.same c.requires.up1
+    (weighted_in (at_places (table_from c.args.shares.now)) c.args.errs.now.same c.args.errs.now.up1 c.args.errs.now.up2 c.requires.same c.requires.up1
     c.requires.up2)
