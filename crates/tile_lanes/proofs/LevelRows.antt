@@ -1,5 +1,5 @@
 -- Where rows are level, the fifth error of the row above counts for nothing.
-use Rattle.std.proofs.Common.{ℕ, ℤ, pos, zero, suc, true, ◌≡◌, ◌+◌, ◌-◌, ◌*◌, ◌<◌, ◌+ℤ◌, List, [], ◌∷◌, ap, refl, arith, cond, inl, inr, sym, ◌∙◌}
+use Rattle.std.proofs.Common.{ℕ, ℤ, pos, zero, suc, ◌≡◌, ◌+◌, ◌-◌, ◌*◌, ◌<◌, ◌+ℤ◌, List, [], ◌∷◌, ap, refl, arith, cond, inl, inr, sym, ◌∙◌}
 use Rattle.std.proofs.Common.{◌==◌, get_or, slice_index}
 use Rattle.std.proofs.lemmas.Bool.{cases_Bool, eqb-true}
 use Rattle.std.specs.Int.{int_div_euclid}
@@ -8,7 +8,6 @@ use Rattle.diffusion_kernel.specs.Tables.{table_of}
 use Rattle.diffusion_kernel.specs.declared.tables.Kernel.{Kernel}
 use Rattle.tile_edges.proofs.Kernels.{weighted-agree}
 use Rattle.tile_lanes.specs.Paces.{pace_of}
-use Rattle.tile_lanes.specs.declared.lanes.pace.Pace.{Pace}
 use Rattle.tile_lanes.specs.declared.lanes.pace.Pace.TheVariants.{Level, Lagging}
 
 pub level_apart : (kernel : Kernel) → pace_of kernel ≡ Level → slice_index (table_of kernel).below 0 ≡ 0
