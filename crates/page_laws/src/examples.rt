@@ -4,6 +4,7 @@
 
 ghost use Rattle.diffusion_definitions.specs.Diffusion.{floyd};
 ghost use Rattle.escp2_definitions.specs.Commands.{commands};
+ghost use Rattle.base_definitions.specs.Limits.{most_columns, most_rows};
 ghost use Rattle.escp2_definitions.specs.Machine.{execute};
 ghost use Rattle.escp2_definitions.specs.Rasters.{ink_rasters};
 ghost use Rattle.escp2_laws.specs.Examples.{listing, three_nozzles};
@@ -136,9 +137,9 @@ pub fn pages_that_are_taken()
       hdpi = 360;
       vdpi = 360;
       least_width = 1;
-      most_width = 8191;
+      most_width = most_columns;
       least_height = 1;
-      most_height = 7920;
+      most_height = most_rows / 2;
     } }
-    ensures at_720 { (wanted_by (record tiny1 { vdpi = 720 })).most_height ≡ 15840 }
+    ensures at_720 { (wanted_by (record tiny1 { vdpi = 720 })).most_height ≡ most_rows }
 {}
