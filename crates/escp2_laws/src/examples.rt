@@ -19,7 +19,7 @@ ghost use Rattle.escp2_laws.specs.Examples.{black_row, blank_row, down_to_12, ei
 ghost use Rattle.escp2_laws.specs.Examples.{listing, listing_overprinted, margins_12, one_dot, refusal, refused, said};
 ghost use Rattle.escp2_laws.specs.Examples.{sheet_refusal, three_nozzles, unit_1, unit_10, unit_5};
 ghost use Rattle.printer_definitions.specs.declared.inks.Ink.TheVariants.{Black};
-ghost use Rattle.std.specs.Prelude.{None, Some, [], length, replicate, take, ◌++◌, ◌∷◌, ◌≡◌};
+ghost use Rattle.std.specs.Prelude.{None, Some, [], length, replicate, take, ◌+◌, ◌++◌, ◌∷◌, ◌≡◌};
 
 /// The bytes of a job with coded rows, and its commands with the places of their first bytes.
 pub fn listing_is_read()

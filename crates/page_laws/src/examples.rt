@@ -19,7 +19,7 @@ ghost use Rattle.printer_definitions.specs.Printer.{tiny1};
 ghost use Rattle.printer_definitions.specs.declared.inks.Ink.TheVariants.{Black, Cyan, Magenta, Yellow};
 ghost use Rattle.printer_definitions.specs.declared.inks.InkSet.TheVariants.{Cmy, Cmyk, K};
 ghost use Rattle.separation_definitions.specs.Windows.{wanted_by, window_of};
-ghost use Rattle.std.specs.Prelude.{None, [], length, ◌∷◌, ◌≡◌};
+ghost use Rattle.std.specs.Prelude.{None, [], length, ◌/◌, ◌∷◌, ◌≡◌};
 ghost use Rattle.weave_definitions.specs.Weave.{pass_count, passes};
 
 /// The dots of a page of four columns and two rows.
