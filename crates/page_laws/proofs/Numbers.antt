@@ -34,15 +34,11 @@ units dpi (inr e) = ap (λ d. 720 / d * 5) e ∙ sym (ap (λ d. 3600 / d) e)
 -- a page of the greatest height is 22 inches long
 longest : (dpi n : ℕ) → (dpi ≡ 360) ⊎ (dpi ≡ 720) → n ≤ most_rows * dpi / 720 → n * (720 / dpi) ≤ most_rows
 longest dpi n (inl e) h =
-    let P : ℕ → Type 0 = λ d. n ≤ most_rows * d / 720 in
-    let Q : ℕ → Type 0 = λ d. n * (720 / d) ≤ most_rows in
-    let low : n ≤ most_rows * 360 / 720 = subst P e h in
-    subst Q (sym e) (omega arith)
+    let P : ℕ → Type 0 = λ d. n ≤ most_rows * d / 720 → n * (720 / d) ≤ most_rows in
+    (subst P (sym e) (λ low. omega (arith, low))) h
 longest dpi n (inr e) h =
-    let P : ℕ → Type 0 = λ d. n ≤ most_rows * d / 720 in
-    let Q : ℕ → Type 0 = λ d. n * (720 / d) ≤ most_rows in
-    let low : n ≤ most_rows * 720 / 720 = subst P e h in
-    subst Q (sym e) (omega arith)
+    let P : ℕ → Type 0 = λ d. n ≤ most_rows * d / 720 → n * (720 / d) ≤ most_rows in
+    (subst P (sym e) (λ low. omega (arith, low))) h
 
 -- What follows for a printer.
 pub row_place : (p : Printer) (n : ℕ) → CanPrint p → n * 3600 / p.vdpi ≡ n * row_step p
@@ -74,10 +70,6 @@ pub nozzle_step-some : (p : Printer) → CanPrint p → 1 ≤ nozzle_step p
 nozzle_step-some p c =
     let product : 1 * row_step p ≤ p.pitch * row_step p = mul-le-mul_right (row_step p) c.some_pitch in
     omega (arith, nozzle_step-is p c, row_step-some p c)
-
--- a page of the greatest height is 22 inches long
-pub sheet-longest : (p : Printer) (n : ℕ) → CanPrint p → n ≤ most_rows * p.vdpi / 720 → n * row_units p ≤ most_rows
-sheet-longest p n c h = longest p.vdpi n c.down h
 
 -- whole steps are on the grid
 pub on_grid : (n step : ℕ) → 1 ≤ step → (n * step) % step ≡ 0
@@ -124,7 +116,7 @@ form-sized p h form can is width height = record {
   most_width = omega (arith, width, is.most_width);
   some_height = omega (arith, height, is.least_height);
   low = omega (arith, height, is.least_height);
-  short = sheet-longest p form.height can is.most_height;
+  short = longest p.vdpi form.height can.down is.most_height;
 }
 
 -- the first nozzle is above the window's end in each pass
