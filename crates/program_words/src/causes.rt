@@ -4,8 +4,7 @@
 use base_definitions::{MOST_COLUMNS, MOST_ROWS};
 
 // The texts of `Width` and `Height` tell the limits of a page.
-const _: () = prove!(MOST_COLUMNS == 8191);
-const _: () = prove!(MOST_ROWS == 22 * 720);
+const _: () = prove!(MOST_COLUMNS == 8191 && MOST_ROWS == 22 * 720);
 
 /// A cause of an error line, and what it means.
 #[derive(Clone, Copy, Debug)]
