@@ -1,5 +1,5 @@
 //! What definitions of every layer speak of: counting, dots packed into bytes and back, the limits of a page, and the
-//! answer that memory ran out. Each limit stands here once, and all other crates take it from here.
+//! answer that memory ran out. Each limit of a page has one name, which stands here.
 //!
 //! Definitions, the types that they mention, and `greatest_common_divisor`, which is exactly that of two numbers below
 //! 256, and 0 of two zeros.

@@ -10,7 +10,7 @@ use Rattle.base_definitions.specs.Packed.{bit_at}
 use Rattle.dot_planes.specs.Tables.{DotTable, IsPackedRow, PutsRow, TurnsOn, dot, row_at, row_dot, row_len}
 use Rattle.dot_planes.proofs.PackedRows.{dot_of_packed, no_bit, packed-len}
 use Rattle.dot_planes.proofs.RowBytes.{apart, bytes_inside, no_byte, row_byte, row_inside_across, row_kept, rows_differ_across}
-use Rattle.dot_planes.proofs.Writes.{put_inside, put_outside}
+use Rattle.dot_planes.proofs.Writes.{put_inside, put_len, put_outside}
 
 -- the same table with other bytes
 abbrev pub with_bytes : DotTable → List ℕ → DotTable
@@ -222,3 +222,7 @@ pub dot_put-spare : (t : DotTable) (i y x place : ℕ) (new : List ℕ) → IsSp
 dot_put-spare t i y x place new spare p m c below past =
     let beyond : c ≢ x = omega (arith, p.across) in
     dots_kept t i y x place new p m c (inr beyond) ∙ spare m c below past
+
+pub bytes_kept : (t : DotTable) (i y a k : ℕ) (row new : List ℕ) → IsRowPut t i y a k row new → length new ≡ length t.bytes
+bytes_kept t i y a k row new p =
+    ap length p.is ∙ put_len a k t.bytes row (room t i y a k row new p) (packed_row-len t.width row p.packed_row ∙ sym p.many)

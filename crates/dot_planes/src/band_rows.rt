@@ -7,10 +7,6 @@ ghost use Rattle.std.specs.Prelude.{false, length, slice_index, ℕ, ◌*◌, �
 use crate::bit_rows::{row_eight, row_part};
 use crate::places::are_bytes;
 use crate::tiles::{NO_DOTS, TileDots};
-use tile_shape::MOST_TILES;
-
-/// The bytes of a row of the widest band, and eight more, of which a row reads one.
-pub(crate) const WIDE_BYTES: usize = 8 * (MOST_TILES + 1);
 
 // The eight bytes of row r of a tile. An ink that the tile does not have has no dots.
 #[inline(always)]
@@ -93,7 +89,7 @@ pub(crate) fn put_wide(row: &mut [u8], width: usize, r: usize, wide: &[u8])
     requires width { width ≤ most_columns }
     requires row { length row.old ≡ row_len width }
     requires r { r < 32 }
-    requires wide { length wide.now ≡ WIDE_BYTES }
+    requires wide { length wide.now ≡ 1040 }
     ensures dots { (x : ℕ) → x < width → row_dot row.new x ≡ row_dot wide.now (x + 2 * r) }
     ensures spare { (x : ℕ) → width ≤ x → row_dot row.new x ≡ false }
     ensures len { length row.new ≡ length row.old }

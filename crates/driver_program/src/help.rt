@@ -1,9 +1,5 @@
 //! What the program says about itself.
-use base_definitions::{MOST_COLUMNS, MOST_ROWS};
 use program_words::{CAUSES, ProgramTexts};
-
-// The help tells the limits of a page.
-const _: () = prove!(MOST_COLUMNS == 8191 && MOST_ROWS == 15840);
 
 const HELP: &str = "\
 jinthbao - prints PWG Raster pages as ESC/P2 jobs, and shows what such jobs print

@@ -5,7 +5,6 @@ use Rattle.std.specs.List.{AllByRecursion, list_any}
 use Rattle.std.proofs.Math.Nat.{div-add-mod, mul-div_cancel}
 use Rattle.std.proofs.lemmas.Bool.{and_parts, eq-eqb, eqb-true, ne_eqb}
 use Rattle.base_definitions.specs.Counting.{count_from}
-use Rattle.base_definitions.specs.Limits.{most_columns}
 use Rattle.dot_emulator.specs.Runs.{IsSheet}
 use Rattle.dot_emulator.specs.Sheets.{IsOnGrid, dot_at}
 use Rattle.dot_emulator.specs.declared.sheet.Sheet.{Sheet}
@@ -256,7 +255,7 @@ counts_are p s sheet dots n some some' is exactly distinct planes =
     (planes.m ∙ plane-dots p s sheet dots Magenta some some' is exactly distinct)
     (planes.y ∙ plane-dots p s sheet dots Yellow some some' is exactly distinct)
 
-pub counts_few : (n : InkCounts) (t : DotTable) → t.width ≤ most_columns → t.rows < 4294967296 → ArePlanes n t → AreFew 1 n
+pub counts_few : (n : InkCounts) (t : DotTable) → t.width ≤ 8191 → t.rows < 4294967296 → ArePlanes n t → AreFew 1 n
 counts_few n t narrow short planes = (
   omega (arith, short, planes.k, plane-most (dot t) t.width t.rows 0 narrow),
   omega (arith, short, planes.c, plane-most (dot t) t.width t.rows 1 narrow),

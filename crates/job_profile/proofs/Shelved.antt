@@ -14,7 +14,7 @@ use Rattle.job_profile.specs.declared.stops.ProfileStop.{ProfileStop}
 use Rattle.job_profile.specs.declared.stops.ProfileStop.TheVariants as stop
 use Rattle.job_profile.specs.Stops.{OnRefused}
 use Rattle.weave_base.specs.declared.shelf.Found.TheVariants as found
-use Rattle.job_profile.specs.Named.{Refusal, most_text, refused_at, shelf_result, text_result}
+use Rattle.job_profile.specs.Named.{Refusal, refused_at, shelf_result, text_result}
 
 -- the text of a name, where the shelf reports its texts, and what it describes
 abbrev pub Says : Option (List NamedText) → List ℕ → Result Printer Refusal → Type 0
@@ -28,7 +28,7 @@ held_for (Some files) name = (text_named name files, refl)
 
 pub text_says : (told : Option (List NamedText)) (name bytes : List ℕ) (r : Result Printer Refusal)
     → IfSome told (λ files. text_named name files ≡ Some bytes)
-    → length bytes ≤ most_text → text_result bytes ≡ r → Says told name r
+    → length bytes ≤ 65536 → text_result bytes ≡ r → Says told name r
 text_says told name bytes r is within says = (Some bytes, same told is, short)
   where
     same : (o : Option (List NamedText)) → IfSome o (λ files. text_named name files ≡ Some bytes)
@@ -37,14 +37,14 @@ text_says told name bytes r is within says = (Some bytes, same told is, short)
     same (Some files) h = sym h
 
     short : shelf_result (Some bytes) ≡ r
-    short = ap (λ b. if b then Err (refused_at 0 cause.TooLong) else text_result bytes) (le-ltb most_text (length bytes) within) ∙ says
+    short = ap (λ b. if b then Err (refused_at 0 cause.TooLong) else text_result bytes) (le-ltb 65536 (length bytes) within) ∙ says
 
-long_is : (o : Option (List ℕ)) → IsSomeAnd o (λ bytes. most_text < length bytes) → shelf_result o ≡ Err (refused_at 0 cause.TooLong)
+long_is : (o : Option (List ℕ)) → IsSomeAnd o (λ bytes. 65536 < length bytes) → shelf_result o ≡ Err (refused_at 0 cause.TooLong)
 long_is None h = absurd h
-long_is (Some bytes) h = ap (λ b. if b then Err (refused_at 0 cause.TooLong) else text_result bytes) (lt-ltb most_text (length bytes) h)
+long_is (Some bytes) h = ap (λ b. if b then Err (refused_at 0 cause.TooLong) else text_result bytes) (lt-ltb 65536 (length bytes) h)
 
 pub long_says : (told : Option (List NamedText)) (name : List ℕ)
-    → IfSome told (λ files. IsSomeAnd (text_named name files) (λ bytes. most_text < length bytes))
+    → IfSome told (λ files. IsSomeAnd (text_named name files) (λ bytes. 65536 < length bytes))
     → Says told name (Err (refused_at 0 cause.TooLong))
 long_says None name h = (Some (replicate 65537 0), tt, long_is (Some (replicate 65537 0)) (omega (arith, length-replicate {A = ℕ} 65537 0)))
 long_says (Some files) name h = (text_named name files, refl, long_is (text_named name files) h)
@@ -52,16 +52,16 @@ long_says (Some files) name h = (text_named name files, refl, long_is (text_name
 -- ---- the same, by the answer of a call
 
 found_text : (told : Option (List NamedText)) (name : List ℕ) (answer : Found) (text : Vec ℕ Global) → answer
-    ≡ found.Text text → Finds told name most_text answer → IfSome told (λ files. text_named name files ≡ Some text.items)
+    ≡ found.Text text → Finds told name 65536 answer → IfSome told (λ files. text_named name files ≡ Some text.items)
 found_text None name answer text is h = tt
-found_text (Some files) name answer text is h = let P : Found → Type 0 = λ a. Finds (Some files) name most_text a in subst P is h
+found_text (Some files) name answer text is h = let P : Found → Type 0 = λ a. Finds (Some files) name 65536 a in subst P is h
 
-within_text : (answer : Found) (text : Vec ℕ Global) → answer ≡ found.Text text → IsWithin most_text answer → vec_len text ≤ most_text
-within_text answer text is h = let P : Found → Type 0 = λ a. IsWithin most_text a in subst P is h
+within_text : (answer : Found) (text : Vec ℕ Global) → answer ≡ found.Text text → IsWithin 65536 answer → vec_len text ≤ 65536
+within_text answer text is h = let P : Found → Type 0 = λ a. IsWithin 65536 a in subst P is h
 
 pub ok_says : (r : Result Printer ProfileStop) (told : Option (List NamedText))
     (name bytes : List ℕ) (answer : Found) (text : Vec ℕ Global) → answer ≡ found.Text text
-    → Finds told name most_text answer → IsWithin most_text answer → bytes ≡ text.items
+    → Finds told name 65536 answer → IsWithin 65536 answer → bytes ≡ text.items
     → IfOk r (λ p. text_result bytes ≡ Ok p) → IfOk r (λ p. Says told name (Ok p))
 ok_says (Err e) told name bytes answer text is finds within same h = tt
 ok_says (Ok p) told name bytes answer text is finds within same h =
@@ -70,7 +70,7 @@ ok_says (Ok p) told name bytes answer text is finds within same h =
 
 pub refused_says : (r : Result Printer ProfileStop) (told : Option (List NamedText))
     (name bytes : List ℕ) (answer : Found) (text : Vec ℕ Global) → answer ≡ found.Text text
-    → Finds told name most_text answer → IsWithin most_text answer → bytes ≡ text.items
+    → Finds told name 65536 answer → IsWithin 65536 answer → bytes ≡ text.items
     → OnRefused r (λ refusal. text_result bytes ≡ Err refusal) → OnRefused r (λ refusal. Says told name (Err refusal))
 refused_says (Ok p) told name bytes answer text is finds within same h = tt
 refused_says (Err stop.Failed) told name bytes answer text is finds within same h = tt
@@ -79,8 +79,8 @@ refused_says (Err (stop.Refused line cause)) told name bytes answer text is find
     text_says told name text.items (Err (refused_at line cause)) (found_text told name answer text is finds)
     (omega (arith, within_text answer text is within, text.ok)) (ap text_result (sym same) ∙ h)
 
-pub long_finds : (told : Option (List NamedText)) (name : List ℕ) (answer : Found) → answer ≡ found.TooLong → Finds told name most_text answer
+pub long_finds : (told : Option (List NamedText)) (name : List ℕ) (answer : Found) → answer ≡ found.TooLong → Finds told name 65536 answer
     → Says told name (Err (refused_at 0 cause.TooLong))
 long_finds None name answer is h = long_says None name tt
 long_finds (Some files) name answer is h =
-    long_says (Some files) name (let P : Found → Type 0 = λ a. Finds (Some files) name most_text a in subst P is h)
+    long_says (Some files) name (let P : Found → Type 0 = λ a. Finds (Some files) name 65536 a in subst P is h)

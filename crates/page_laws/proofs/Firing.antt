@@ -12,7 +12,6 @@ use Rattle.escp2_definitions.specs.declared.stops.EmulatorFault.TheVariants.{Not
 use Rattle.escp2_definitions.specs.declared.stops.EmulatorFault.TheVariants.{OffSheet, Overprint}
 use Rattle.escp2_definitions.specs.Machine.{Dot, Machine, after, first_fault, is_off_grid, is_off_sheet, is_other_density}
 use Rattle.escp2_definitions.specs.Machine.{overprints, raster_dots, refusals, refuse, rows_dots}
-use Rattle.base_definitions.specs.Limits.{most_columns}
 use Rattle.base_definitions.specs.Packed.{packed}
 use Rattle.page_definitions.specs.Strokes.{IsOnWindow, IsWhole, Spoken, Stroke, has_dot, ink_commands, raster_header, rows_fired, say}
 use Rattle.page_laws.proofs.Numbers.{column_step-some, on_grid, row_step-some, row_units-is}
@@ -91,7 +90,7 @@ raster-accepted w stroke ink columns dots is lies once =
     neither _ _ (ap not (eq-eqb across across refl)) (ap not (eq-eqb (nozzle_step w.printer) (nozzle_step w.printer) refl)) in
     let nozzles : not (w.printer.nozzles == w.printer.nozzles) ≡ false = ap not (eq-eqb w.printer.nozzles w.printer.nozzles refl) in
     let grid : is_off_grid w.printer s ≡ false = neither _ _ (ap not (eq-eqb _ _ zeros.rest)) (ap not (eq-eqb _ _ at_row)) in
-    let columns_fit : nat_lt most_columns (0 / across + w.halftone.width) ≡ false = le-ltb _ _ (omega (arith, zeros.over, is.size.most_width)) in
+    let columns_fit : nat_lt 8191 (0 / across + w.halftone.width) ≡ false = le-ltb _ _ (omega (arith, zeros.over, is.size.most_width)) in
     let rows_fit : list_any (λ d. nat_le bottom d.y) fired ≡ false =
     ap (list_any (λ d. nat_le bottom d.y)) same
     ∙ on_sheet w.printer w.above w.halftone.height ink stroke.start bottom (stroke.rows ink) is.can (lies.on_window ink) bottom_is in

@@ -2,7 +2,6 @@
 use Rattle.std.proofs.Common.{◌≡◌, ℕ, ◌+◌, ◌-◌, ◌*◌, ◌/◌, ◌%◌, ◌<◌, ◌≤◌, ◌⊎◌, inl, inr, sym, ◌∙◌, ap, arith, subst}
 use Rattle.std.proofs.Math.Nat.{div-mul-le_self, mul-le-mul, mul-le-mul_right}
 use Rattle.std.proofs.lemmas.Nat.{mod-mul-add}
-use Rattle.base_definitions.specs.Limits.{most_rows}
 use Rattle.printer_definitions.specs.Printer.{Printer, column_step, nozzle_step, row_step, row_units}
 use Rattle.page_definitions.specs.Dots.{Halftone}
 use Rattle.page_laws.specs.Sized.{Sized}
@@ -32,13 +31,17 @@ units dpi (inl e) = ap (λ d. 720 / d * 5) e ∙ sym (ap (λ d. 3600 / d) e)
 units dpi (inr e) = ap (λ d. 720 / d * 5) e ∙ sym (ap (λ d. 3600 / d) e)
 
 -- a page of the greatest height is 22 inches long
-longest : (dpi n : ℕ) → (dpi ≡ 360) ⊎ (dpi ≡ 720) → n ≤ most_rows * dpi / 720 → n * (720 / dpi) ≤ most_rows
+longest : (dpi n : ℕ) → (dpi ≡ 360) ⊎ (dpi ≡ 720) → n ≤ 15840 * dpi / 720 → n * (720 / dpi) ≤ 15840
 longest dpi n (inl e) h =
-    let P : ℕ → Type 0 = λ d. n ≤ most_rows * d / 720 → n * (720 / d) ≤ most_rows in
-    (subst P (sym e) (λ low. omega (arith, low))) h
+    let P : ℕ → Type 0 = λ d. n ≤ 15840 * d / 720 in
+    let Q : ℕ → Type 0 = λ d. n * (720 / d) ≤ 15840 in
+    let low : n ≤ 15840 * 360 / 720 = subst P e h in
+    subst Q (sym e) (omega arith)
 longest dpi n (inr e) h =
-    let P : ℕ → Type 0 = λ d. n ≤ most_rows * d / 720 → n * (720 / d) ≤ most_rows in
-    (subst P (sym e) (λ low. omega (arith, low))) h
+    let P : ℕ → Type 0 = λ d. n ≤ 15840 * d / 720 in
+    let Q : ℕ → Type 0 = λ d. n * (720 / d) ≤ 15840 in
+    let low : n ≤ 15840 * 720 / 720 = subst P e h in
+    subst Q (sym e) (omega arith)
 
 -- What follows for a printer.
 pub row_place : (p : Printer) (n : ℕ) → CanPrint p → n * 3600 / p.vdpi ≡ n * row_step p
@@ -71,6 +74,10 @@ nozzle_step-some p c =
     let product : 1 * row_step p ≤ p.pitch * row_step p = mul-le-mul_right (row_step p) c.some_pitch in
     omega (arith, nozzle_step-is p c, row_step-some p c)
 
+-- a page of the greatest height is 22 inches long
+pub sheet-longest : (p : Printer) (n : ℕ) → CanPrint p → n ≤ 15840 * p.vdpi / 720 → n * row_units p ≤ 15840
+sheet-longest p n c h = longest p.vdpi n c.down h
+
 -- whole steps are on the grid
 pub on_grid : (n step : ℕ) → 1 ≤ step → (n * step) % step ≡ 0
 on_grid n step some =
@@ -94,7 +101,7 @@ length-fits p h tall can size =
 
 -- the margins of a window are in their order, and on the sheet
 pub margins-fit : (p : Printer) (h : Halftone) (above tall : ℕ) → CanPrint p → Sized p h tall
-    → ((p.top - above) * row_units p < (p.top + h.height) * row_units p) × ((p.top + h.height) * row_units p ≤ most_rows)
+    → ((p.top - above) * row_units p < (p.top + h.height) * row_units p) × ((p.top + h.height) * row_units p ≤ 15840)
 margins-fit p h above tall can size =
     let on_sheet : (p.top + h.height) * row_units p ≤ tall * row_units p = mul-le-mul_right (row_units p) size.low in (
       rises (p.top - above) (p.top + h.height) (row_units p) (row_units-some p can) (omega (arith, size.some_height)),
@@ -103,7 +110,7 @@ margins-fit p h above tall can size =
 
 -- a step down from one row to another above the window's end is no longer than the sheet
 pub step-fits : (p : Printer) (h : Halftone) (above tall last row : ℕ) → Sized p h tall → above ≤ p.top → row < above + h.height
-    → (row - last) * row_units p ≤ most_rows
+    → (row - last) * row_units p ≤ 15840
 step-fits p h above tall last row size room low =
     let on_sheet : (row - last) * row_units p ≤ tall * row_units p = mul-le-mul_right (row_units p) (omega (arith, room, size.low)) in
     omega (arith, on_sheet, size.short)
@@ -116,7 +123,7 @@ form-sized p h form can is width height = record {
   most_width = omega (arith, width, is.most_width);
   some_height = omega (arith, height, is.least_height);
   low = omega (arith, height, is.least_height);
-  short = longest p.vdpi form.height can.down is.most_height;
+  short = sheet-longest p form.height can is.most_height;
 }
 
 -- the first nozzle is above the window's end in each pass

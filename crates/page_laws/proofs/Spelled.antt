@@ -8,7 +8,6 @@ use Rattle.printer_definitions.specs.Inks.{inks_of}
 use Rattle.printer_definitions.specs.Printer.{Printer, column_step, nozzle_step, row_units}
 use Rattle.escp2_definitions.specs.declared.command.Command.TheVariants as c
 use Rattle.escp2_definitions.specs.Commands.{Spells, in_table, is_between, rows_len}
-use Rattle.base_definitions.specs.Limits.{most_columns}
 use Rattle.base_definitions.specs.Packed.{packed}
 use Rattle.escp2_definitions.specs.Written.{Coding, IsCoding, written}
 use Rattle.escp2_laws.specs.Coded.{HasCoding}
@@ -120,7 +119,7 @@ ink-sayable w stroke ink is lies = by_dot (has_dot (stroke.rows ink))
             record { in_range = refl; rows_fit = refl; coded = tt },
             (
               record {
-                in_range = and_from _ _ m (between 1 most_columns
+                in_range = and_from _ _ m (between 1 8191
                     w.halftone.width is.size.some_width is.size.most_width);
                 rows_fit = fits;
                 coded = refl;

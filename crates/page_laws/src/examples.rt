@@ -4,7 +4,6 @@
 
 ghost use Rattle.diffusion_definitions.specs.Diffusion.{floyd};
 ghost use Rattle.escp2_definitions.specs.Commands.{commands};
-ghost use Rattle.base_definitions.specs.Limits.{most_columns, most_rows};
 ghost use Rattle.escp2_definitions.specs.Machine.{execute};
 ghost use Rattle.escp2_definitions.specs.Rasters.{ink_rasters};
 ghost use Rattle.escp2_laws.specs.Examples.{listing, three_nozzles};
@@ -19,7 +18,7 @@ ghost use Rattle.printer_definitions.specs.Printer.{tiny1};
 ghost use Rattle.printer_definitions.specs.declared.inks.Ink.TheVariants.{Black, Cyan, Magenta, Yellow};
 ghost use Rattle.printer_definitions.specs.declared.inks.InkSet.TheVariants.{Cmy, Cmyk, K};
 ghost use Rattle.separation_definitions.specs.Windows.{wanted_by, window_of};
-ghost use Rattle.std.specs.Prelude.{None, [], length, ◌/◌, ◌∷◌, ◌≡◌};
+ghost use Rattle.std.specs.Prelude.{None, [], length, ◌∷◌, ◌≡◌};
 ghost use Rattle.weave_definitions.specs.Weave.{pass_count, passes};
 
 /// The dots of a page of four columns and two rows.
@@ -137,9 +136,9 @@ pub fn pages_that_are_taken()
       hdpi = 360;
       vdpi = 360;
       least_width = 1;
-      most_width = most_columns;
+      most_width = 8191;
       least_height = 1;
-      most_height = most_rows / 2;
+      most_height = 7920;
     } }
-    ensures at_720 { (wanted_by (record tiny1 { vdpi = 720 })).most_height ≡ most_rows }
+    ensures at_720 { (wanted_by (record tiny1 { vdpi = 720 })).most_height ≡ 15840 }
 {}

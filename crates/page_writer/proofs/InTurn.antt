@@ -14,7 +14,7 @@ use Rattle.weave_base.specs.Parts.{AppendsPart}
 use Rattle.weave_base.proofs.Parting.{part_behind, part_of_front}
 use Rattle.base_definitions.specs.Counting.{count_from}
 use Rattle.page_writer.specs.StrokeBytes.{IsStrokeSum, stroke_bytes}
-use Rattle.page_writer.specs.Sums.{most_pass_bytes, rasters_in}
+use Rattle.page_writer.specs.Sums.{rasters_in}
 use Rattle.page_writer.specs.declared.sums.PageSum.{PageSum}
 use Rattle.page_writer.proofs.Inks.{rasters-append}
 
@@ -229,6 +229,6 @@ pub strokes_few : (bytes at count most : ℕ) → bytes ≤ at * most → at ≤
 strokes_few bytes at count most so_far few = let more : at * most ≤ count * most = mul-le-mul_right most few in omega arith
 
 -- and all that a head may take fit a number of 64 bits
-pub strokes_fit : (bytes count most : ℕ) → bytes ≤ count * most → count < 2 ^ 30 → most ≤ most_pass_bytes → bytes < 2 ^ 52
+pub strokes_fit : (bytes count most : ℕ) → bytes ≤ count * most → count < 2 ^ 30 → most ≤ 2089015 → bytes < 2 ^ 52
 strokes_fit bytes count most so_far few short =
-    let all : count * most ≤ 1073741824 * most_pass_bytes = mul-le-mul (let low : count ≤ 1073741824 = omega arith in low) short in omega arith
+    let all : count * most ≤ 1073741824 * 2089015 = mul-le-mul (let low : count ≤ 1073741824 = omega arith in low) short in omega arith

@@ -5,7 +5,6 @@ use Rattle.std.specs.Prelude.{slice_get}
 use Rattle.std.specs.List.{flat_map, list_any}
 use Rattle.std.proofs.lemmas.Bool.{lt-ltb}
 use Rattle.std.proofs.Math.Bool.{or-false}
-use Rattle.base_definitions.specs.Limits.{most_columns, most_row_bytes}
 use Rattle.escp2_definitions.specs.declared.command.RasterHead.{RasterHead}
 use Rattle.page_definitions.specs.PageBytes.{page_coding}
 use Rattle.page_definitions.specs.Strokes.{Spoken, Stroke, bytes_of, fires, has_dot, ink_commands, inks_commands, raster_header}
@@ -21,7 +20,7 @@ use Rattle.separation_definitions.specs.CanPrint.{CanPrint}
 use Rattle.page_writer.specs.Heads.{place_in}
 use Rattle.page_writer.specs.StrokeBytes.{IsStroke}
 use Rattle.page_writer.specs.Rows.{rows_commands}
-use Rattle.page_writer.specs.Sums.{most_of_pass, most_pass_bytes, rasters_in}
+use Rattle.page_writer.specs.Sums.{most_of_pass, rasters_in}
 use Rattle.page_writer.proofs.Fires.{rasters_tell}
 
 -- ---- lists of commands
@@ -160,11 +159,11 @@ inks_few Cmy = omega arith
 inks_few Cmyk = omega arith
 
 -- a stroke of the widest rows, with the most nozzles and inks
-pub pass_short : (p : Printer) (width : ℕ) → CanPrint p → width ≤ most_columns → most_of_pass p width ≤ most_pass_bytes
+pub pass_short : (p : Printer) (width : ℕ) → CanPrint p → width ≤ 8191 → most_of_pass p width ≤ 2089015
 pass_short p width can narrow =
-    let bytes : (width + 7) / 8 ≤ most_row_bytes = omega arith in
+    let bytes : (width + 7) / 8 ≤ 1024 = omega arith in
     let heads : 2 * p.nozzles ≤ 510 = omega (arith, can.most_nozzles) in
-    let rows : 2 * p.nozzles * ((width + 7) / 8) ≤ 510 * most_row_bytes = mul-le-mul heads bytes in
-    let one : 12 + 2 * p.nozzles * ((width + 7) / 8) ≤ 12 + 510 * most_row_bytes = omega (arith, rows) in
-    let inks : length (inks_of p.inks) * (12 + 2 * p.nozzles * ((width + 7) / 8)) ≤ 4 * 12 + 510 * most_row_bytes = mul-le-mul (inks_few p.inks) one in
+    let rows : 2 * p.nozzles * ((width + 7) / 8) ≤ 510 * 1024 = mul-le-mul heads bytes in
+    let one : 12 + 2 * p.nozzles * ((width + 7) / 8) ≤ 522252 = omega (arith, rows) in
+    let inks : length (inks_of p.inks) * (12 + 2 * p.nozzles * ((width + 7) / 8)) ≤ 4 * 522252 = mul-le-mul (inks_few p.inks) one in
     omega (arith, inks)

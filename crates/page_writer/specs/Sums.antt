@@ -1,6 +1,5 @@
 -- The size of a page's job.
 use Rattle.std.specs.Prelude.{◌≡◌, ℕ, ◌+◌, ◌*◌, ◌/◌, List, [], ◌∷◌, length, Option}
-use Rattle.base_definitions.specs.Limits.{most_row_bytes}
 use Rattle.escp2_definitions.specs.Rasters.{raster_count}
 use Rattle.page_definitions.specs.Dots.{Halftone}
 use Rattle.page_definitions.specs.PageBytes.{halftone_bytes, page_coding, weave}
@@ -37,10 +36,6 @@ SumsHalftone p h len = SumsUp (halftone_bytes p h len) (halftone_commands p h le
 -- the most bytes of one pass over a window of this width
 abbrev pub most_of_pass : Printer → ℕ → ℕ
 most_of_pass p width = 7 + length (inks_of p.inks) * (12 + 2 * p.nozzles * ((width + 7) / 8))
-
--- the most bytes of one pass of any printer: over the widest window, by a head with the most nozzles and inks
-abbrev pub most_pass_bytes : ℕ
-most_pass_bytes = 7 + 4 * (12 + 2 * 255 * most_row_bytes)
 
 -- the most bytes of a page over a window of this size
 abbrev pub most_of_page : Printer → ℕ → ℕ → ℕ

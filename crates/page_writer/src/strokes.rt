@@ -16,6 +16,7 @@ ghost use Rattle.weave_base.specs.Causes.{HasCause, Rose};
 ghost use Rattle.weave_base.specs.Parts.{AppendsPart};
 
 use crate::batches::put_batches;
+use crate::blank::WIDEST_ROW;
 use crate::head::Head;
 use crate::numbers::sheet_of;
 use crate::page_strokes::{PageStrokes, Strokes};
@@ -23,7 +24,7 @@ use crate::prologue::{PROLOGUE, append_end, append_prologue};
 use crate::room::{Batches, cut};
 use crate::stroke::put_stroke;
 use crate::sums::{FRAME, PageSum, most_of_pass};
-use base_definitions::{MOST_ROW_BYTES, Memory};
+use base_definitions::Memory;
 use dot_planes::Planes;
 use printer_profile::{PageForm, Profile};
 use std::alloc::Global;
@@ -122,7 +123,7 @@ fn put_by_all<R: Threads + Sync, H: Head + Sync, K: Sink>(
     ensures capacity { vec_capacity out.old ≤ vec_capacity out.new }
 {
     let Some(batches) = batches else {
-        let mut row = [0u8; MOST_ROW_BYTES];
+        let mut row = [0u8; WIDEST_ROW];
         let len = (page.planes.width() as usize + 7) / 8;
         return put_strokes(
             page.profile,

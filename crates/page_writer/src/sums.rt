@@ -1,5 +1,5 @@
 //! The size of a page's job.
-ghost use Rattle.page_writer.specs.Sums.{most_of_page, most_of_pass as most_of_pass_of, most_pass_bytes};
+ghost use Rattle.page_writer.specs.Sums.{most_of_page, most_of_pass as most_of_pass_of};
 ghost use Rattle.base_definitions.specs.Limits.{most_columns, most_rows};
 ghost use Rattle.separation_definitions.specs.CanPrint.{CanPrint};
 ghost use Rattle.std.specs.Prelude.{◌*◌, ◌+◌, ◌/◌, ◌≡◌, ◌≤◌};
@@ -38,7 +38,7 @@ fn most_of_ink(nozzles: u8, width: u32) -> u64
 pub(crate) fn most_of_pass(profile: &Profile, width: u32) -> u64
     requires { width ≤ most_columns }
     ensures is { result ≡ most_of_pass_of profile.now width }
-    ensures most { result ≤ most_pass_bytes }
+    ensures most { result ≤ 2089015 }
 {
     STEP as u64 + u64::from(profile.inks.count()) * most_of_ink(profile.nozzles, width)
 }

@@ -1,6 +1,5 @@
 -- The values that the examples share.
-use Rattle.std.specs.Prelude.{ℕ, ◌/◌, List, [], ◌∷◌, ◌++◌, true, Result}
-use Rattle.base_definitions.specs.Limits.{most_columns, most_rows}
+use Rattle.std.specs.Prelude.{ℕ, List, [], ◌∷◌, ◌++◌, true, Result}
 use Rattle.pwg_definitions.specs.declared.pages.Kind.{Kind}
 use Rattle.pwg_definitions.specs.declared.pages.Kind.TheVariants.{Gray8, Black1, Cmyk8}
 use Rattle.pwg_definitions.specs.declared.pages.PageForm.{PageForm}
@@ -11,16 +10,9 @@ use Rattle.pwg_definitions.specs.Header.{check, header_bytes, row_of}
 use Rattle.pwg_definitions.specs.Groups.{GroupRead, group_at}
 use Rattle.pwg_definitions.specs.Stream.{Page, Stream, StreamEnd, stream, sync_word}
 
--- pages of any size of 360 dots an inch
+-- pages of 360 dots an inch, of 1 to 8,191 pixels by 1 to 7,920 lines
 abbrev pub wants : Wanted
-wants = record {
-  hdpi = 360;
-  vdpi = 360;
-  least_width = 1;
-  most_width = most_columns;
-  least_height = 1;
-  most_height = most_rows / 2;
-}
+wants = record { hdpi = 360; vdpi = 360; least_width = 1; most_width = 8191; least_height = 1; most_height = 7920 }
 
 -- a page of 4 by 2 pixels in grey
 abbrev pub small_form : PageForm

@@ -1,8 +1,7 @@
 //! Streams, headers and groups, and what they are read as.
 #![tactic(auto, unfolding(pwg_definitions::specs::Groups::line_at, pwg_definitions::specs::Header::header_bytes, pwg_definitions::specs::Stream::lines_at, pwg_definitions::specs::Stream::pages_from, pwg_definitions::specs::Stream::stream))]
 
-ghost use Rattle.std.specs.Prelude.{Err, Ok, [], drop, false, length, replicate, take, ◌+◌, ◌++◌, ◌/◌, ◌∷◌, ◌≡◌};
-ghost use Rattle.base_definitions.specs.Limits.{most_columns, most_rows};
+ghost use Rattle.std.specs.Prelude.{Err, Ok, [], drop, false, length, replicate, take, ◌++◌, ◌∷◌, ◌≡◌};
 ghost use Rattle.pwg_definitions.specs.Groups.GroupRead.{Group, Part, Wrong};
 ghost use Rattle.pwg_definitions.specs.Header.{header_of};
 ghost use Rattle.pwg_definitions.specs.Stream.StreamEnd.{Done, Fault};
@@ -76,13 +75,13 @@ pub fn header_bounds()
     ensures small { checked good ≡ Ok small_form }
     ensures narrow { checked (header_sized 1 2) ≡ Ok (form_sized 1 2) }
     ensures too_narrow { checked (header_sized 0 2) ≡ Err fault.Width }
-    ensures wide { checked (header_sized most_columns 2) ≡ Ok (form_sized most_columns 2) }
-    ensures too_wide { checked (header_sized (most_columns + 1) 2) ≡ Err fault.Width }
+    ensures wide { checked (header_sized 8191 2) ≡ Ok (form_sized 8191 2) }
+    ensures too_wide { checked (header_sized 8192 2) ≡ Err fault.Width }
     ensures widest { checked (header_sized 4294967295 2) ≡ Err fault.Width }
     ensures low { checked (header_sized 4 1) ≡ Ok (form_sized 4 1) }
     ensures too_low { checked (header_sized 4 0) ≡ Err fault.Height }
-    ensures tall { checked (header_sized 4 (most_rows / 2)) ≡ Ok (form_sized 4 (most_rows / 2)) }
-    ensures too_tall { checked (header_sized 4 (most_rows / 2 + 1)) ≡ Err fault.Height }
+    ensures tall { checked (header_sized 4 7920) ≡ Ok (form_sized 4 7920) }
+    ensures too_tall { checked (header_sized 4 7921) ≡ Err fault.Height }
     ensures upright { checked (record good { cross_transform = 0; feed_transform = 0 }) ≡ Ok small_form }
     ensures cross { checked (record good { cross_transform = 2 }) ≡ Err fault.Transform }
     ensures feed { checked (record good { feed_transform = 2 }) ≡ Err fault.Transform }

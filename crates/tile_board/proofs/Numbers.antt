@@ -1,7 +1,7 @@
 -- How many tiles there are, and which tile an edge comes from or goes to.
 use Rattle.std.proofs.Common.{◌≡◌, ℕ, ◌+◌, ◌-◌, ◌*◌, ◌^◌, ◌<◌, ◌≤◌, ◌⊎◌, Option, Some, None, refl, sym, ◌∙◌, ap, arith, inl, inr, subst}
 use Rattle.std.proofs.Math.Nat.{mul-le-mul_left}
-use Rattle.tile_shape.specs.Geometry.{IsNeeded, IsReceiver, IsShape, IsTile, bands_of, columns_of, most_bands, most_tiles}
+use Rattle.tile_shape.specs.Geometry.{IsNeeded, IsReceiver, IsShape, IsTile, bands_of, columns_of}
 use Rattle.tile_shape.specs.declared.tiles.Dir.{Dir}
 use Rattle.tile_shape.specs.declared.tiles.Dir.TheVariants.{Right, Bottom, Corner}
 use Rattle.tile_shape.specs.declared.tiles.Place.{Place}
@@ -17,11 +17,11 @@ pub few-tiles : (s : Shape) → IsShape s → bands_of s * columns_of s < 2 ^ 32
 few-tiles s sizes =
     let b : ℕ = bands_of s in
     let c : ℕ = columns_of s in
-    let few_bands : b ≤ most_bands = let h = sizes.most_height in omega arith in
-    let few_columns : c ≤ most_tiles = let h = sizes.most_width in omega arith in
+    let few_bands : b ≤ 495 = let h = sizes.most_height in omega arith in
+    let few_columns : c ≤ 129 = let h = sizes.most_width in omega arith in
     let product = mul-le-mul_left b few_columns in
     let all : ℕ = b * c in
-    let product' : all ≤ b * most_tiles = product in
+    let product' : all ≤ b * 129 = product in
     let answer : all < 2 ^ 32 = omega arith in
     answer
 

@@ -23,14 +23,6 @@ columns_of s = div_ceil (s.width + 62) 64
 abbrev pub bands_of : Shape → ℕ
 bands_of s = div_ceil s.height 32
 
--- the most columns of tiles of a band
-abbrev pub most_tiles : ℕ
-most_tiles = div_ceil (most_columns + 62) 64
-
--- the most bands of a window
-abbrev pub most_bands : ℕ
-most_bands = div_ceil most_rows 32
-
 -- the window has this tile
 pub record IsTile (s : Shape) (p : Place) : Type 0 where
   pub column : p.c < columns_of s

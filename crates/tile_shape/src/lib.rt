@@ -11,4 +11,4 @@
 pub mod laws;
 mod tiles;
 
-pub use tiles::{Dir, MOST_TILES, Needs, Place, Shape};
+pub use tiles::{Dir, Needs, Place, Shape};

@@ -1,7 +1,5 @@
 //! The tiles of a window: the tile of a pixel, the edges that a tile needs, and the tiles that its edges go to.
 
-use base_definitions::MOST_COLUMNS;
-
 /// The place of a tile.
 #[derive(Clone, Copy, Debug, PartialEq, Eq)]
 pub struct Place {
@@ -10,9 +8,6 @@ pub struct Place {
     /// The band, counted from 0 at the top.
     pub j: u32,
 }
-
-/// The most columns of tiles of a band: its last row is moved right by 62 pixels.
-pub const MOST_TILES: usize = (MOST_COLUMNS as usize + 62 + 63) / 64;
 
 /// The size of a window.
 #[derive(Clone, Copy, Debug, PartialEq, Eq)]
@@ -50,7 +45,7 @@ impl Shape {
     ghost use Rattle.tile_shape.specs.Geometry.{columns_of};
     ghost use Rattle.std.specs.Prelude.{IfNone, IfSome, IsTrue, ◌↔◌, ◌≡◌};
 
-    /// How many columns of tiles each band has: 1 to `MOST_TILES`. Some tiles may have no pixel.
+    /// How many columns of tiles each band has: 1 to 129. Some tiles may have no pixel.
     pub fn columns(&self) -> u32
         requires { IsShape self.now }
         ensures { result ≡ columns_of self.now }
@@ -58,7 +53,7 @@ impl Shape {
         (self.width + 62).div_ceil(64)
     }
 
-    /// How many bands there are: at least 1.
+    /// How many bands there are: 1 to 495.
     pub fn bands(&self) -> u32
         requires { IsShape self.now }
         ensures { result ≡ bands_of self.now }

@@ -3,10 +3,10 @@ ghost use Rattle.dot_planes.specs.Bands.{PutsBand, PutsBandInk, PutsBandRow};
 ghost use Rattle.dot_planes.specs.Tiles.{slab_of};
 ghost use Rattle.base_definitions.specs.Limits.{most_rows};
 ghost use Rattle.std.specs.Prelude.{length, ◌*◌, ◌+◌, ◌<◌, ◌≡◌, ◌≤◌};
-ghost use Rattle.tile_shape.specs.Geometry.{columns_of, most_tiles};
+ghost use Rattle.tile_shape.specs.Geometry.{columns_of};
 
 use super::{Planes, row_len};
-use crate::band_rows::{WIDE_BYTES, put_side_by_side, put_wide};
+use crate::band_rows::{put_side_by_side, put_wide};
 use crate::places::{reach, row_start_across};
 use crate::tiles::TileDots;
 
@@ -20,7 +20,8 @@ impl Planes {
         requires tiles { length tiles.now ≡ columns_of (slab_of self.old height) }
         ensures { PutsBand self.old self.new at height j tiles.now }
     {
-        let mut wide = [0; WIDE_BYTES];
+        // The widest band has 129 tiles, and a row reads one byte more.
+        let mut wide = [0; 1040];
         let rows = (height - 32 * j).min(32);
         for ink in 0..self.inks {
             self.put_band_ink(at + 32 * j, rows, ink, tiles, &mut wide);
@@ -33,9 +34,9 @@ impl Planes {
         requires slab { first + rows ≤ self.old.rows }
         requires most { first + rows ≤ most_rows }
         requires ink { ink < self.old.inks }
-        requires tiles { length tiles.now ≤ most_tiles }
+        requires tiles { length tiles.now ≤ 129 }
         requires enough { self.old.width + 62 ≤ 64 * length tiles.now }
-        requires wide { length wide.old ≡ WIDE_BYTES }
+        requires wide { length wide.old ≡ 1040 }
         ensures { PutsBandInk self.old self.new first rows ink tiles.now }
     {
         for r in 0..rows {
@@ -49,7 +50,7 @@ impl Planes {
         requires ink { ink < self.old.inks }
         requires y { y < self.old.rows }
         requires r { r < 32 }
-        requires wide { length wide.now ≡ WIDE_BYTES }
+        requires wide { length wide.now ≡ 1040 }
         ensures { PutsBandRow self.old self.new ink y r wide.now }
     {
         let len = row_len(self.width);

@@ -103,6 +103,9 @@ text_ended (Some xs) (Some t) (Some ys) unread bytes uses end more end' =
 pub rose_from : (a b d : ℕ) → a ≤ b → Rose b d → Rose a d
 rose_from a b d later rose = record { rose = omega (arith, rose.rose) }
 
+pub rose_on : (a b d : ℕ) → Rose a b → b ≤ d → Rose a d
+rose_on a b d rose later = record { rose = omega (arith, rose.rose) }
+
 pub appends_kept : (a b d : Option (List ℕ)) (bytes : List ℕ) → Appends a b bytes → Keeps b d → Appends a d bytes
 appends_kept None b d bytes grown kept = tt
 appends_kept (Some x) None d bytes grown kept = absurd grown

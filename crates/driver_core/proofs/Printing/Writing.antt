@@ -10,7 +10,6 @@ use Rattle.dead_nozzles.proofs.Strokes.{missing-few}
 use Rattle.dot_planes.specs.Tables.{DotTable}
 use Rattle.escp2_definitions.specs.Commands.{Entry, commands}
 use Rattle.escp2_definitions.specs.Rasters.{raster_count}
-use Rattle.base_definitions.specs.Limits.{most_columns, most_rows}
 use Rattle.page_definitions.specs.Dots.{Halftone}
 use Rattle.page_definitions.specs.Healed.{healed, healed_bytes, healed_passes, worn_head}
 use Rattle.page_definitions.specs.PageBytes.{halftone_bytes, page_coding, weave}
@@ -28,7 +27,7 @@ use Rattle.page_laws.specs.Sized.{Sized}
 use Rattle.page_writer.specs.Healed.{SumsHealed, most_of_healed}
 use Rattle.page_writer.specs.Shingles.{SumsShingled, most_of_shingles}
 use Rattle.page_writer.specs.Shows.{Shows}
-use Rattle.page_writer.specs.Sums.{SumsHalftone, SumsUp, most_of_page, most_of_pass, most_pass_bytes, rasters_in}
+use Rattle.page_writer.specs.Sums.{SumsHalftone, SumsUp, most_of_page, most_of_pass, rasters_in}
 use Rattle.page_writer.specs.declared.strokes.WriteStop.{WriteStop}
 use Rattle.page_writer.specs.declared.sums.PageSum.{PageSum}
 use Rattle.page_writer.proofs.Inks.{pass_short}
@@ -83,17 +82,17 @@ rasters-sum (s ∷ job) =
     ap (λ n. raster_count s.command + n) (rasters-sum job) ∙ sym (sum_by-cons (λ (s : Spoken). raster_count s.command) s job)
 
 -- a page of few strokes has less than a terabyte
-page-short : (p : Printer) (count width bytes : ℕ) → CanPrint p → width ≤ most_columns → count ≤ 40000
+page-short : (p : Printer) (count width bytes : ℕ) → CanPrint p → width ≤ 8191 → count ≤ 40000
     → bytes ≤ 49 + count * most_of_pass p width → bytes < 2 ^ 40
 page-short p count width bytes can wide few short =
-    let pass : most_of_pass p width ≤ most_pass_bytes = pass_short p width can wide in
+    let pass : most_of_pass p width ≤ 2089015 = pass_short p width can wide in
     let all : count * most_of_pass p width ≤ 40000 * most_of_pass p width = mul-le-mul_right (most_of_pass p width) few in
     omega (arith, short, all, pass)
 
 -- what the sums of strokes say of the way that they are
 sums-by : (way : Way) (p : Printer) (h : Halftone) (strokes : Strokes) (tall count width : ℕ) (result : Result PageSum WriteStop)
     → halftone_bytes_by way p h (tall * row_units p) ≡ strokes_bytes page_coding p h.width h.height (tall * row_units p) strokes
-    → CanPrint p → Sized p h tall → Fires p h strokes → width ≤ most_columns → count ≤ 40000
+    → CanPrint p → Sized p h tall → Fires p h strokes → width ≤ 8191 → count ≤ 40000
     → IfOk result (SumsUp (halftone_bytes_by way p h (tall * row_units p)) (page_commands p h.width h.height page_coding.c (tall * row_units p) strokes))
     → IfOk result (λ sum. sum.bytes ≤ 49 + count * most_of_pass p width)
     → IfOk result (SumsBy way p h (tall * row_units p))
@@ -108,7 +107,7 @@ sums-by way p h strokes tall count width (Ok sum) bytes can size fire wide few s
 sums-by way p h strokes tall count width (Err why) bytes can size fire wide few sums short = tt
 
 -- a sheet has few rows
-low-rows : (p : Printer) (h : Halftone) (tall : ℕ) → CanPrint p → Sized p h tall → p.top + h.height ≤ most_rows
+low-rows : (p : Printer) (h : Halftone) (tall : ℕ) → CanPrint p → Sized p h tall → p.top + h.height ≤ 15840
 low-rows p h tall can size =
     let units : tall * 1 ≤ tall * row_units p = mul-le-mul_left tall (row_units-some p can) in
     omega (arith, units, size.low, size.short)

@@ -1,7 +1,6 @@
 -- What a printer reads of the stream that is made for it: the made pages, or a refusal of their header.
 use Rattle.std.proofs.Common.{◌≡◌, ℕ, ◌<◌, ◌≤◌, ◌^◌, ◌⊎◌, Bool, true, false, if◌then◌else◌, List, [], Ok, Err, IsOk, inl, inr, refl, sym, ◌∙◌, ap, subst, arith}
 use Rattle.std.specs.Io.KnownBytes.{Keeps}
-use Rattle.base_definitions.specs.Limits.{most_columns}
 use Rattle.diffusion_definitions.specs.Diffusion.{Table}
 use Rattle.diffusion_kernel.specs.Tables.{table_of}
 use Rattle.driver_answer.specs.declared.answer.Answer.{Answer}
@@ -45,7 +44,7 @@ pub data ReadsMade (job : Job) (p : Printer) : Type 0 where
       → stream_read job p ≡ record { pages = []; end = Fault 1 0 (cause.Header why) } → ReadsMade job p
 
 -- a line of a made page is short
-line-short : (kind : Kind) (width : ℕ) → width ≤ most_columns → line_bytes width (row_of kind).bits_per_pixel < 2 ^ 32
+line-short : (kind : Kind) (width : ℕ) → width ≤ 8191 → line_bytes width (row_of kind).bits_per_pixel < 2 ^ 32
 line-short kinds.Gray8 width narrow = omega arith
 line-short kinds.Black8 width narrow = omega arith
 line-short kinds.Rgb8 width narrow = omega arith

@@ -1,6 +1,5 @@
 //! The line that `trial` writes.
 ghost use Rattle.buffered_bytes.specs.Gathering.{gathered};
-ghost use Rattle.buffered_bytes.specs.declared.gathered.TheConstants.{MOST_GATHERED};
 ghost use Rattle.driver_core.specs.Trying.Summary.{totals_line};
 ghost use Rattle.std.specs.Io.KnownBytes.{Appends};
 ghost use Rattle.std.specs.Prelude.{OnErr, OnOk, codes, decimal, length, ◌++◌, ◌+◌, ◌≡◌, ◌≤◌};
@@ -29,7 +28,7 @@ pub struct Totals {
 
 // Appends a word and a number, for which there is room.
 fn push_number(line: &mut Gathered, word: &str, number: u64)
-    requires room { line.old.len + length word.now + 20 ≤ MOST_GATHERED }
+    requires room { line.old.len + length word.now + 20 ≤ 8192 }
     ensures is { gathered line.new ≡ gathered line.old ++ word.now ++ decimal number }
     ensures len { line.new.len ≤ line.old.len + length word.now + 20 }
 {
@@ -40,7 +39,7 @@ fn push_number(line: &mut Gathered, word: &str, number: u64)
 
 // Appends the counts of the inks.
 fn push_dots(line: &mut Gathered, dots: &InkCounts)
-    requires room { line.old.len + 100 ≤ MOST_GATHERED }
+    requires room { line.old.len + 100 ≤ 8192 }
     ensures is { gathered line.new ≡ gathered line.old ++ codes " k=" ++ decimal dots.now.k ++ codes " c=" ++ decimal dots.now.c
         ++ codes " m=" ++ decimal dots.now.m ++ codes " y=" ++ decimal dots.now.y }
     ensures len { line.new.len ≤ line.old.len + 100 }

@@ -1,5 +1,4 @@
 use Rattle.std.proofs.Common.{◌≡◌, ℕ, ◌-◌, ◌+◌, ◌*◌, ◌<◌, ◌≤◌, suc, nat_lt, if◌then◌else◌, ap, ◌∙◌, arith}
-use Rattle.base_definitions.specs.Limits.{most_rows}
 use Rattle.weave_base.proofs.Parting.{on_err_anyway}
 use Rattle.page_writer.specs.Heads.{HeadStrokes}
 use Rattle.printer_definitions.specs.Printer.{row_units}
@@ -32,9 +31,9 @@ put_stroke-requires-clause-down g c =
     let head : HeadStrokes = g.H.Head.strokes c.args.head.now in
     let units : ℕ = row_units c.args.profile.now in
     let low : c.strokes.stroke < head.count = omega (arith, c.strokes-test.true, c.count-stroke-end.ensures) in
-    let begin : c.start-begin.result * units ≤ most_rows =
+    let begin : c.start-begin.result * units ≤ 15840 =
     omega (arith, ap (λ n. n * units) c.start-begin.ensures, c.requires.suits.low c.strokes.stroke low) in
-    step_low _ c.strokes.last units most_rows begin
+    step_low _ c.strokes.last units 15840 begin
 
 pub returns-in_err-done-clause-part : goal.returns-in_err-done-clause-part
 returns-in_err-done-clause-part g c =
