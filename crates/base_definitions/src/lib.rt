@@ -1,6 +1,8 @@
 //! What definitions of every layer speak of: counting, dots packed into bytes and back, the limits of a page, and the
-//! answer that memory ran out. Definitions, the types that they mention, and `greatest_common_divisor`, which is exactly
-//! that of two numbers below 256, and 0 of two zeros.
+//! answer that memory ran out. Each limit of a page has one name, which stands here.
+//!
+//! Definitions, the types that they mention, and `greatest_common_divisor`, which is exactly that of two numbers below
+//! 256, and 0 of two zeros.
 #![tactic(auto)]
 
 mod answers;
@@ -9,4 +11,4 @@ mod limits;
 
 pub use answers::Memory;
 pub use divisors::greatest_common_divisor;
-pub use limits::{MOST_COLUMNS, MOST_ROWS};
+pub use limits::{LONGEST_PAGE, MOST_COLUMNS, MOST_ROW_BYTES, MOST_ROWS};

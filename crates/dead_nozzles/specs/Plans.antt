@@ -56,7 +56,7 @@ Owns h owners stroke =
 abbrev pub listed : List Bool → ℕ → List ℕ
 listed table nozzles = filter (λ nozzle. slice_index_or table nozzle false) (count_from 0 nozzles)
 
--- The head has a nozzle or more, at most 255 rows apart, over a window of at most 15,840 rows.
+-- The head has a nozzle or more, at most 255 rows apart, over a window of no more rows than a page.
 pub record IsWorn (nozzles pitch height : ℕ) : Type 0 where
   pub some_nozzles : 1 ≤ nozzles
   pub most_nozzles : nozzles ≤ 255

@@ -6,8 +6,8 @@
 //! The planes of a sheet are made for its first dot, and for a blank sheet at its eject. A blank sheet can be handed
 //! back (`keep`), and a later sheet of as many rows then gets its planes.
 //!
-//! A `Sheet` has exactly the dots that the machine printed, in planes of black, cyan, magenta and yellow, 8,191 columns
-//! wide.
+//! A `Sheet` has exactly the dots that the machine printed, in planes of black, cyan, magenta and yellow, which have
+//! `MOST_COLUMNS` columns.
 #![tactic(auto)]
 
 mod emulator;

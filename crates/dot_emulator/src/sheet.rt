@@ -5,8 +5,8 @@ ghost use Rattle.std.specs.Prelude.{◌≡◌, ◌≤◌};
 
 use dot_planes::Planes;
 
-/// An ejected sheet. Its planes are black, cyan, magenta and yellow, each of 8,191 columns, and have no dot at or past
-/// column `columns`.
+/// An ejected sheet. Its planes are black, cyan, magenta and yellow, each of `MOST_COLUMNS` columns, and have no dot at
+/// or past column `columns`.
 #[derive(Drop)]
 pub struct Sheet {
     /// Rows of dots, as many as the page has.

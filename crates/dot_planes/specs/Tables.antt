@@ -104,7 +104,7 @@ pub record CopiesInkRow (old new : AmountTable) (i from y : ℕ) : Type 0 where
 
 -- ---- sizes
 
--- The sizes that `make` takes: at most 8,191 columns, 15,840 rows and four inks.
+-- The sizes that `make` takes: at most as many columns and rows as a page, and four inks.
 pub record IsSize (width rows inks : ℕ) : Type 0 where
   pub some_columns : 1 ≤ width
   pub most_columns : width ≤ most_columns

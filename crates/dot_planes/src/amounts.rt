@@ -19,8 +19,11 @@ impl TileAmounts {
     }
 }
 
-/// Room for the bytes of a tile's pixels as they were read: at most 256 of each of its 32 rows.
-pub type TileBytes = [u8; 8192];
+/// The most bytes of a tile's pixels as they were read: 256 of each of its 32 rows.
+pub const TILE_BYTES: usize = 32 * 256;
+
+/// Room for the bytes of a tile's pixels as they were read.
+pub type TileBytes = [u8; TILE_BYTES];
 
 /// Rows of amounts of inks, from which tiles are gathered. Contracts see a table of amounts, and not how these are
 /// kept.

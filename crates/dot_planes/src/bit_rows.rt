@@ -2,7 +2,7 @@
 ghost use Rattle.dot_planes.specs.Laying.{has_dot as has_dot_of, is_in_bytes, laid_dot};
 ghost use Rattle.dot_planes.specs.Tables.{row_dot, row_len};
 ghost use Rattle.base_definitions.specs.Packed.{bit_at};
-ghost use Rattle.base_definitions.specs.Limits.{most_columns};
+ghost use Rattle.base_definitions.specs.Limits.{most_columns, most_row_bytes};
 ghost use Rattle.std.specs.List.{list_any};
 ghost use Rattle.std.specs.Prelude.{length, nat_lt, slice_index, true, ℕ, ◌&&◌, ◌*◌, ◌+◌};
 ghost use Rattle.std.specs.Prelude.{◌-◌, ◌/◌, ◌<◌, ◌||◌, ◌≡◌, ◌≤◌};
@@ -69,7 +69,7 @@ fn part_or_none(row: &[u8], dots: usize, i: usize) -> u8
 fn laid_byte(row: &[u8], dots: usize, before: usize, i: usize) -> u8
     requires before { before < 8 }
     requires len { length row.now ≡ row_len dots }
-    requires small { i ≤ 1024 }
+    requires small { i ≤ most_row_bytes }
     ensures { (j : ℕ) → j < 8 → bit_at result j ≡ laid_dot row.now dots before (8 * i + j) }
 {
     let left = match i.checked_sub(1) {

@@ -31,7 +31,7 @@ impl Model for InkRows {
 }
 
 impl InkRows {
-    /// Amounts of 0: 1 to 8,191 columns, 1 to 15,840 rows, 1 to 4 inks.
+    /// Amounts of 0: 1 to `MOST_COLUMNS` columns, 1 to `MOST_ROWS` rows, 1 to 4 inks.
     pub fn make(alloc: Global, width: u32, rows: u32, inks: u8) -> Result<InkRows, Memory>
         requires { IsSize width rows inks }
         ensures width { IfOk result (λ t. t.width ≡ width) }

@@ -1,8 +1,8 @@
 //! Tables over the window of a page: the dots of each ink in packed planes, and the amounts of each ink.
 //!
-//! `InkRows` holds amounts, ink by ink and row by row, and `Planes` dots, row by row and ink by ink. Contracts see tables
-//! (`AmountTable`, `DotTable`), whose values `amount` and `dot` give. A row of dots is packed: eight dots a byte, the
-//! first in the highest bit, and spare bits of 0.
+//! `InkRows` holds amounts, ink by ink and row by row, and `Planes` dots, row by row and ink by ink. Contracts see
+//! tables (`AmountTable`, `DotTable`), whose values `amount` and `dot` give. A row of dots is packed: eight dots a
+//! byte, the first in the highest bit, and spare bits of 0.
 //!
 //! Each `make` gives a table without dots or amounts, or answers `Memory`; no other call takes memory. Each call that
 //! sets dots or amounts says what it sets and that everything else is unchanged: `turn_on` one dot, `lay` the first
@@ -26,7 +26,7 @@ mod seen;
 mod tile_rows;
 mod tiles;
 
-pub use amounts::{TileAmounts, TileBytes, TileRows};
+pub use amounts::{TILE_BYTES, TileAmounts, TileBytes, TileRows};
 pub use bit_rows::has_dot;
 pub use ink_rows::InkRows;
 pub use planes::Planes;

@@ -1,14 +1,13 @@
 //! Where the rows of inks begin in a table's bytes.
 ghost use Rattle.dot_planes.specs.Tables.{row_at};
-ghost use Rattle.base_definitions.specs.Limits.{most_columns, most_rows};
+ghost use Rattle.base_definitions.specs.Limits.{most_columns, most_row_bytes, most_rows};
 ghost use Rattle.std.specs.Prelude.{length, replicate, slice_index, vec_capacity, ℕ, ◌*◌, ◌++◌, ◌+◌, ◌-◌, ◌<◌, ◌≡◌};
 ghost use Rattle.std.specs.Prelude.{◌≤◌};
 
-// The bytes of the widest row of dots, which has 8,191 columns.
-const WIDEST_ROW: usize = 1024;
+use base_definitions::MOST_ROW_BYTES;
 
 // The widest row, without dots.
-const BLANK: [u8; WIDEST_ROW] = [0; WIDEST_ROW];
+const BLANK: [u8; MOST_ROW_BYTES] = [0; MOST_ROW_BYTES];
 
 /// The index of the first byte of row y of an ink, in a table of `inks` inks with `rows` rows of `len` bytes each.
 #[inline]
@@ -52,7 +51,7 @@ pub(crate) fn row_of(bytes: &[u8], len: usize, start: usize) -> &[u8]
 /// The row of `len` bytes that begins at an index, or a blank one where the bytes end before it.
 #[inline]
 pub(crate) fn row_or_blank(bytes: &[u8], len: usize, start: usize) -> &[u8]
-    requires most { len ≤ 1024 }
+    requires most { len ≤ most_row_bytes }
     requires whole { start < length bytes.now → start + len ≤ length bytes.now }
     ensures row { (n more : ℕ) → start ≡ n * len → start + len ≤ length bytes.now + more
         → result.now ≡ row_at len (bytes.now ++ replicate more 0) n }

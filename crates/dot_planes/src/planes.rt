@@ -2,7 +2,7 @@
 ghost use Rattle.dot_planes.specs.Tables.{IsSize, TurnsOn, dot, packed_row, row_dot, row_len as row_len_of};
 ghost use Rattle.dot_planes.specs.Tiles.{PutsTileRow};
 ghost use Rattle.base_definitions.specs.Packed.{packed};
-ghost use Rattle.base_definitions.specs.Limits.{most_columns};
+ghost use Rattle.base_definitions.specs.Limits.{most_columns, most_row_bytes};
 ghost use Rattle.std.specs.List.{count_by, sum_by};
 ghost use Rattle.std.specs.Prelude.{IfOk, count_ones, false, length, map, slice_index, ℕ, ◌%◌, ◌*◌, ◌+◌, ◌<◌, ◌≡◌, ◌≤◌};
 ghost use Rattle.base_definitions.specs.Counting.{count_from};
@@ -19,8 +19,8 @@ use tile_shape::Place;
 
 /// The dots of a window, of inks in the order of the printer's set. Contracts see a table of dots.
 ///
-/// A row is packed: eight dots a byte, the first in its highest bit, (width + 7) / 8 bytes, and spare bits of 0. Row 0 of
-/// each ink comes first, then row 1 of each. There is room for all rows, but only those up to the last one that was
+/// A row is packed: eight dots a byte, the first in its highest bit, (width + 7) / 8 bytes, and spare bits of 0. Row 0
+/// of each ink comes first, then row 1 of each. There is room for all rows, but only those up to the last one that was
 /// written are there; the rest are blank, and their memory is untouched.
 #[derive(Drop)]
 pub struct Planes {
@@ -43,7 +43,7 @@ impl Model for Planes {
 }
 
 impl Planes {
-    /// Planes without dots: 1 to 8,191 columns, 1 to 15,840 rows, 1 to 4 inks.
+    /// Planes without dots: 1 to `MOST_COLUMNS` columns, 1 to `MOST_ROWS` rows, 1 to 4 inks.
     pub fn make(alloc: Global, width: u32, rows: u32, inks: u8) -> Result<Planes, Memory>
         requires { IsSize width rows inks }
         ensures width { IfOk result (λ t. t.width ≡ width) }
@@ -165,7 +165,7 @@ impl Planes {
 fn row_len(width: u32) -> usize
     requires { width ≤ most_columns }
     ensures is { result ≡ row_len_of width }
-    ensures most { result ≤ 1024 }
+    ensures most { result ≤ most_row_bytes }
 {
     (width as usize + 7) / 8
 }
@@ -173,9 +173,9 @@ fn row_len(width: u32) -> usize
 // The number of dots in a packed row: in words of eight bytes, and in the bytes after them.
 #[inline]
 fn count_row(row: &[u8]) -> u32
-    requires { length row.now ≤ 1024 }
+    requires { length row.now ≤ most_row_bytes }
     ensures is { result ≡ sum_by count_ones row.now }
-    ensures most { result ≤ 8192 }
+    ensures most { result ≤ 8 * most_row_bytes }
 {
     let (words, rest) = row.split_at(row.len() / 8 * 8);
     count_words(words) + count_bytes(rest)
@@ -185,7 +185,7 @@ fn count_row(row: &[u8]) -> u32
 #[inline]
 fn count_words(bytes: &[u8]) -> u32
     requires whole { length bytes.now % 8 ≡ 0 }
-    requires most { length bytes.now ≤ 1024 }
+    requires most { length bytes.now ≤ most_row_bytes }
     ensures is { result ≡ sum_by count_ones bytes.now }
     ensures most { result ≤ 8 * length bytes.now }
 {
@@ -212,7 +212,7 @@ fn count_word(word: &[u8]) -> u32
 // The number of dots in a few bytes.
 #[inline]
 fn count_bytes(bytes: &[u8]) -> u32
-    requires { length bytes.now ≤ 1024 }
+    requires { length bytes.now ≤ most_row_bytes }
     ensures is { result ≡ sum_by count_ones bytes.now }
     ensures most { result ≤ 8 * length bytes.now }
 {

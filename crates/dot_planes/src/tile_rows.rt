@@ -2,7 +2,7 @@
 ghost use Rattle.dot_planes.specs.Tables.{row_dot, row_len};
 ghost use Rattle.dot_planes.specs.Tiles.{PutsDots};
 ghost use Rattle.base_definitions.specs.Packed.{bit_at};
-ghost use Rattle.base_definitions.specs.Limits.{most_columns};
+ghost use Rattle.base_definitions.specs.Limits.{most_columns, most_row_bytes};
 ghost use Rattle.std.specs.Prelude.{length, slice_index, ℕ, ◌*◌, ◌+◌, ◌-◌, ◌<◌, ◌≡◌, ◌≤◌, ◌⊎◌};
 
 use crate::eights::eight_from;
@@ -13,7 +13,7 @@ use crate::places::are_bytes;
 pub(crate) fn put_dots(row: &mut [u8], width: usize, c: usize, r: usize, dots: &[u8])
     requires width { width ≤ most_columns }
     requires row { length row.old ≡ row_len width }
-    requires c { c < 1024 }
+    requires c { c < most_row_bytes }
     requires r { r < 32 }
     requires dots { length dots.now ≡ 8 }
     ensures dots { PutsDots width c r width dots.now row.old row.new }
@@ -51,7 +51,7 @@ fn put_whole(
     dots: &[u8],
 )
     requires row { length row.old ≡ row_len width }
-    requires c { c < 1024 }
+    requires c { c < most_row_bytes }
     requires left { skip < 8 * c }
     requires right { 64 * c + 64 ≤ width + 2 * r }
     requires lean { 2 * r ≡ 8 * skip + shift }
@@ -87,7 +87,7 @@ fn moved_row(dots: &[u8], shift: usize, last: u8) -> [u8; 8]
 fn put_cut(row: &mut [u8], width: usize, c: usize, r: usize, skip: usize, shift: usize, dots: &[u8])
     requires width { width ≤ most_columns }
     requires row { length row.old ≡ row_len width }
-    requires c { c < 1024 }
+    requires c { c < most_row_bytes }
     requires skip { skip < 8 }
     requires lean { 2 * r ≡ 8 * skip + shift }
     requires shift { shift ≤ 6 }

@@ -3,10 +3,11 @@ ghost use Rattle.escp2_definitions.specs.Commands.{colour_code as colour_code_of
 ghost use Rattle.std.specs.Prelude.{◌≡◌};
 
 use crate::Command;
+use base_definitions::MOST_COLUMNS;
 use printer_definitions::Ink;
 
 /// The most columns of a raster: as many as a page may have.
-pub const RASTER_COLUMNS: u16 = 8191;
+pub const RASTER_COLUMNS: u16 = MOST_COLUMNS as u16;
 
 /// The most units of a length or a position of a sheet: a number of 15 bits.
 pub const MOST_UNITS: u16 = 32_767;

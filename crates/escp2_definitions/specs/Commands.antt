@@ -2,6 +2,7 @@
 -- (ESC/P Reference Manual, graphics commands; the ranges are this project's own).
 use Rattle.std.specs.Prelude.{◌≡◌, ℕ, zero, suc, ◌+◌, ◌*◌, ◌/◌, ◌%◌, Bool, true, ◌==◌, nat_le, ◌&&◌, ◌||◌, if◌then◌else◌}
 use Rattle.std.specs.Prelude.{MatchBool, List, [], ◌∷◌, ◌++◌, length, drop}
+use Rattle.base_definitions.specs.Limits.{most_columns}
 use Rattle.printer_definitions.specs.declared.inks.Ink.{Ink}
 use Rattle.printer_definitions.specs.declared.inks.Ink.TheVariants.{Black, Cyan, Magenta, Yellow}
 use Rattle.escp2_definitions.specs.declared.command.RasterHead.{RasterHead}
@@ -46,11 +47,11 @@ is_position n = nat_le n most_units
 abbrev pub is_bottom : ℕ → ℕ → Bool
 is_bottom top n = is_between (top + 1) most_units n
 
--- the most columns of a sheet, and so of a raster's row
+-- the most columns of a sheet, and so of a raster's row: those of a page
 abbrev pub last_column : ℕ
-last_column = 8191
+last_column = most_columns
 
--- a raster has 1 to 8,191 columns
+-- a raster has a column or more
 abbrev pub is_width : ℕ → Bool
 is_width n = is_between 1 last_column n
 

@@ -2,6 +2,7 @@
 use Rattle.std.specs.Prelude.{ℕ, zero, suc, ◌+◌, ◌-◌, ◌*◌, ◌/◌, ◌%◌, Bool, true, false, not, ◌==◌, nat_lt, nat_le, ◌&&◌, ◌||◌}
 use Rattle.std.specs.Prelude.{if◌then◌else◌, List, [], ◌∷◌, ◌++◌, length, take, drop, max, unwrap_or, is_none, Option, Some, None}
 use Rattle.base_definitions.specs.Packed.{bits}
+pub use Rattle.base_definitions.specs.Limits.{longest_page}
 use Rattle.std.specs.List.{list_any}
 use Rattle.printer_definitions.specs.declared.inks.Ink.{Ink}
 use Rattle.printer_definitions.specs.declared.inks.Ink.TheVariants.{Black}
@@ -31,10 +32,6 @@ pub record Sheet : Type 0 where
 pub record PageMargins : Type 0 where
   pub top : ℕ
   pub bottom : ℕ
-
--- the longest page: 22 inches
-abbrev pub longest_page : ℕ
-longest_page = 79200
 
 -- The state of the machine. The current sheet has these columns and dots.
 pub record Machine : Type 0 where

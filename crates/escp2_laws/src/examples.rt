@@ -4,7 +4,8 @@
 
 ghost use Rattle.escp2_definitions.specs.Commands.Heard.{One, Wrong};
 ghost use Rattle.escp2_definitions.specs.Commands.ListEnd.{Cut, Fault, Whole};
-ghost use Rattle.escp2_definitions.specs.Commands.{command_at, commands};
+ghost use Rattle.base_definitions.specs.Limits.{most_row_bytes};
+ghost use Rattle.escp2_definitions.specs.Commands.{command_at, commands, last_column};
 ghost use Rattle.escp2_definitions.specs.JobEnds.{job_end};
 ghost use Rattle.escp2_definitions.specs.Least.{costs, least_row};
 ghost use Rattle.escp2_definitions.specs.Machine.{execute};
@@ -18,7 +19,7 @@ ghost use Rattle.escp2_laws.specs.Examples.{black_row, blank_row, down_to_12, ei
 ghost use Rattle.escp2_laws.specs.Examples.{listing, listing_overprinted, margins_12, one_dot, refusal, refused, said};
 ghost use Rattle.escp2_laws.specs.Examples.{sheet_refusal, three_nozzles, unit_1, unit_10, unit_5};
 ghost use Rattle.printer_definitions.specs.declared.inks.Ink.TheVariants.{Black};
-ghost use Rattle.std.specs.Prelude.{None, Some, [], length, replicate, take, ◌++◌, ◌∷◌, ◌≡◌};
+ghost use Rattle.std.specs.Prelude.{None, Some, [], length, replicate, take, ◌+◌, ◌++◌, ◌∷◌, ◌≡◌};
 
 /// The bytes of a job with coded rows, and its commands with the places of their first bytes.
 pub fn listing_is_read()
@@ -106,7 +107,7 @@ pub fn commands_are_refused()
 
 /// A sheet is 22 inches long at most, and its bottom margin is on it.
 pub fn pages_are_limited()
-    // 15,840 and 15,841 units of 5/3600 inch
+    // the most lines of a page in units of 5/3600 inch, and one unit more
     ensures longest { refusal (unit_5 ++ 0x1B ∷ 0x28 ∷ 0x43 ∷ 0x02 ∷ 0x00 ∷ 0xE0 ∷ 0x3D ∷ []) ≡ None }
     ensures too_long { refusal (unit_5 ++ 0x1B ∷ 0x28 ∷ 0x43 ∷ 0x02 ∷ 0x00 ∷ 0xE1 ∷ 0x3D ∷ []) ≡
         refused 6 OffSheet }
@@ -118,7 +119,7 @@ pub fn pages_are_limited()
         ++ 0x1B ∷ 0x28 ∷ 0x63 ∷ 0x04 ∷ 0x00 ∷ 0x00 ∷ 0x00 ∷ 0x0D ∷ 0x00 ∷ []) ≡ refused 13 OffSheet }
 {}
 
-/// A row has 8,191 columns at most: a dot in the last of them, and one to the right of it.
+/// A row has as many columns as a page, at most: a dot in the last of them, and one to the right of it.
 pub fn columns_are_limited()
     ensures last { refusal (graphics ++ unit_10 ++ length_12 ++ margins_12
         ++ 0x1B ∷ 0x24 ∷ 0xFE ∷ 0x1F ∷ one_dot) ≡ None }
@@ -143,10 +144,10 @@ pub fn numbers_are_limited()
         Wrong 6 BadValue }
 {}
 
-/// The widest row is read: 8,191 columns, in 1,024 bytes.
+/// The widest row is read.
 pub fn widest_row_is_read()
-    ensures { command_at (0x1B ∷ 0x2E ∷ 0x00 ∷ 0x0A ∷ 0x0A ∷ 0x01 ∷ 0xFF ∷ 0x1F ∷ replicate 1024 0) ≡
-        One (c.Raster (record { c = 0; v = 10; h = 10; m = 1; n = 8191 })) (replicate 1024 0) 1032 }
+    ensures { command_at (0x1B ∷ 0x2E ∷ 0x00 ∷ 0x0A ∷ 0x0A ∷ 0x01 ∷ 0xFF ∷ 0x1F ∷ replicate most_row_bytes 0) ≡
+        One (c.Raster (record { c = 0; v = 10; h = 10; m = 1; n = last_column })) (replicate most_row_bytes 0) (8 + most_row_bytes) }
 {}
 
 /// A row of two runs and a byte between them, whose second run costs no less than a literal: a repeated byte, and then

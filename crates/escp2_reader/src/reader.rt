@@ -2,6 +2,7 @@
 #![tactic(auto, unfolding(escp2_definitions::specs::Commands::command_at))]
 
 ghost use Rattle.arrayvec.specs.ArrayVec.{array_vec_len};
+ghost use Rattle.base_definitions.specs.Limits.{most_row_bytes};
 ghost use Rattle.escp2_definitions.specs.Commands.Heard.{Part};
 ghost use Rattle.escp2_definitions.specs.Commands.{command_at};
 ghost use Rattle.escp2_reader.specs.Headers.{HasRows, IsShort};
@@ -13,7 +14,7 @@ ghost use Rattle.std.specs.Prelude.{vec_len, ℕ, List, ◌++◌, ◌-◌, ◌*�
 use crate::headers::{HeaderState, header_of};
 use crate::{Command, JobCause, RasterHead};
 use arrayvec::ArrayVec;
-use base_definitions::Memory;
+use base_definitions::{MOST_ROW_BYTES, Memory};
 use escp2_rows::{RowReader, RowState};
 use std::alloc::Global;
 use std::mem;
@@ -21,8 +22,8 @@ use std::mem;
 // The bytes of a command, without the rows of a raster.
 type HeaderBytes = ArrayVec<u8, 9>;
 
-// The most bytes of a raster's rows: 255 rows of 8,191 columns.
-const MOST_ROW_BYTES: usize = 261_120;
+// The most bytes of a raster's rows.
+const MOST_RASTER_BYTES: usize = 255 * MOST_ROW_BYTES;
 
 /// What a call of `JobReader::feed` found.
 #[derive(Clone, Copy, Debug, PartialEq, Eq)]
@@ -62,7 +63,7 @@ enum Stage {
 }
 
 /// Reads the commands of a job from pieces of any length. It has room for the rows of the largest raster, 255 rows of
-/// 8,191 columns.
+/// `RASTER_COLUMNS` columns.
 #[derive(Drop)]
 pub struct JobReader {
     // The offset of the command's first byte.
@@ -72,7 +73,7 @@ pub struct JobReader {
     // The rows of a raster, as far as they are read.
     rows: Vec<u8>,
     stage: Stage,
-    ghost room: { 261120 ≤ vec_capacity rows },
+    ghost room: { 255 * most_row_bytes ≤ vec_capacity rows },
     ghost order: { begin ≤ next },
     ghost part: { is_part (command_at (gathered stage)) ≡ true },
     ghost short: { length (gathered stage) ≤ 8 },
@@ -93,7 +94,7 @@ impl JobReader {
         ensures is_open { IfOk result (λ reader. is_failed_of reader ≡ false) }
         ensures none { IfOk result (λ reader. rows_of reader ≡ []) }
     {
-        let rows = Vec::with_capacity(alloc, MOST_ROW_BYTES)?;
+        let rows = Vec::with_capacity(alloc, MOST_RASTER_BYTES)?;
         Ok(JobReader {
             begin: 0,
             next: 0,

@@ -1,4 +1,5 @@
 //! Commands appended to a vector of bytes.
+ghost use Rattle.base_definitions.specs.Limits.{most_row_bytes};
 ghost use Rattle.escp2_definitions.specs.Least.{least_row};
 ghost use Rattle.escp2_definitions.specs.Commands.{command_bytes};
 ghost use Rattle.std.specs.Prelude.{length, take, vec_capacity, vec_len, ◌*◌, ◌++◌, ◌+◌, ◌≡◌, ◌≤◌};
@@ -21,7 +22,7 @@ pub fn append_header(command: &Command, out: &mut Vec<u8>)
 
 // Writes the code of a row after the first `begin` bytes, and gives its length.
 fn code_behind(row: &[u8], begin: usize, out: &mut [u8]) -> usize
-    requires most { length row.now ≤ 1024 }
+    requires most { length row.now ≤ most_row_bytes }
     requires room { begin + 2 * length row.now ≤ length out.old }
     ensures code { take (begin + result) out.new ≡ take begin out.old ++ least_row row.now }
     ensures short { result ≤ 2 * length row.now }
@@ -29,10 +30,10 @@ fn code_behind(row: &[u8], begin: usize, out: &mut [u8]) -> usize
     code_row(row, &mut out[begin..])
 }
 
-/// Appends the least code of a row of at most 1,024 bytes. The vector has room for twice the row's length, so that no
-/// memory is taken.
+/// Appends the least code of a row that is no wider than a page. The vector has room for twice the row's length, so
+/// that no memory is taken.
 pub fn append_row(row: &[u8], out: &mut Vec<u8>)
-    requires most { length row.now ≤ 1024 }
+    requires most { length row.now ≤ most_row_bytes }
     requires room { vec_len out.old + 2 * length row.now ≤ vec_capacity out.old }
     ensures items { out.new.items ≡ out.old.items ++ least_row row.now }
     ensures short { vec_len out.new ≤ vec_len out.old + 2 * length row.now }

@@ -1,4 +1,6 @@
 //! Commands written to a sink.
+ghost use Rattle.base_definitions.specs.Limits.{most_row_bytes};
+ghost use Rattle.buffered_bytes.specs.declared.gathered.TheConstants.{MOST_GATHERED};
 ghost use Rattle.escp2_definitions.specs.Least.{least_row};
 ghost use Rattle.escp2_definitions.specs.Commands.{Spells, in_table, row_bytes as row_bytes_of, rows_len};
 ghost use Rattle.escp2_definitions.specs.Written.{rows_apart, written};
@@ -10,12 +12,13 @@ ghost use Rattle.weave_base.specs.Parts.{AppendsPart};
 
 use crate::headers::{header_bytes, row_bytes};
 use crate::{Command, RasterHead};
+use base_definitions::MOST_ROW_BYTES;
 use buffered_bytes::Gathered;
 use escp2_rows::code_row;
 use weave_base::{Failed, Sink, put_all};
 
 // The most bytes of a row's code: twice the widest row.
-const MOST_CODE: usize = 2048;
+const MOST_CODE: usize = 2 * MOST_ROW_BYTES;
 
 // Writes bytes, and then the codes of a raster's rows, one by one.
 fn put_coded<K: Sink>(
@@ -24,8 +27,8 @@ fn put_coded<K: Sink>(
     rows: &[u8],
     out: &mut K,
 ) -> Result<(), Failed>
-    requires front { length front.now ≤ 8192 }
-    requires narrow { row_bytes_of header ≤ 1024 }
+    requires front { length front.now ≤ MOST_GATHERED }
+    requires narrow { row_bytes_of header ≤ most_row_bytes }
     requires rows_fit { length rows.now ≡ header.m * row_bytes_of header }
     ensures ok { OnOk result (Appends (K.held out.old) (K.held out.new)
         (front.now ++ flat_map least_row (rows_apart header.m (row_bytes_of header) rows.now))) }

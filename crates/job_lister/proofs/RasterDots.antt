@@ -7,6 +7,7 @@ use Rattle.printer_definitions.specs.declared.inks.Ink.{Ink}
 use Rattle.printer_definitions.specs.declared.inks.Ink.TheVariants.{Black}
 use Rattle.escp2_definitions.specs.declared.command.RasterHead.{RasterHead}
 use Rattle.escp2_definitions.specs.Commands.{row_bytes}
+use Rattle.base_definitions.specs.Limits.{most_row_bytes}
 use Rattle.base_definitions.specs.Packed.{bits}
 use Rattle.escp2_definitions.specs.Machine.{row_dots, rows_dots}
 use Rattle.job_lister.specs.Listing.{dot_count}
@@ -47,7 +48,7 @@ count-is header bytes = rows-count header.m header Black 0 0 bytes
 -- The dots of the first rows, and those of the rows that follow.
 pub record CountSoFar (header : RasterHead) (bytes : List ℕ) (i sum : ℕ) : Type 0 where
   pub is : sum + dots_of (header.m - i) header (drop (i * row_bytes header) bytes) ≡ dot_count header bytes
-  pub most : sum ≤ 8192 * i
+  pub most : sum ≤ 8 * most_row_bytes * i
 
 pub count_begin : (header : RasterHead) (bytes : List ℕ) → CountSoFar header bytes 0 0
 count_begin header bytes = record {
@@ -61,7 +62,7 @@ count_begin header bytes = record {
 }
 
 pub count_step : (header : RasterHead) (bytes : List ℕ) (i sum row : ℕ) → CountSoFar header bytes i sum → i < header.m
-    → row ≡ on_count (take header.n (bits (take (row_bytes header) (drop (i * row_bytes header) bytes)))) → row ≤ 8192
+    → row ≡ on_count (take header.n (bits (take (row_bytes header) (drop (i * row_bytes header) bytes)))) → row ≤ 8 * most_row_bytes
     → CountSoFar header bytes (i + 1) (sum + row)
 unfolding dots_of
 count_step header bytes i sum row so_far more is few = record {

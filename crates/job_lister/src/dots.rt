@@ -1,5 +1,6 @@
 //! Counting the dots of a raster.
 ghost use Rattle.escp2_definitions.specs.Commands.{in_table, rows_len};
+ghost use Rattle.base_definitions.specs.Limits.{most_row_bytes};
 ghost use Rattle.base_definitions.specs.Packed.{bits};
 ghost use Rattle.escp2_definitions.specs.declared.command.Command.TheVariants as command;
 ghost use Rattle.job_lister.specs.Listing.{dot_count};
@@ -11,7 +12,7 @@ use escp2_definitions::RasterHead;
 // How many bits of some bytes are 1.
 #[inline]
 fn ones(bytes: &[u8]) -> u32
-    requires { length bytes.now ≤ 1024 }
+    requires { length bytes.now ≤ most_row_bytes }
     ensures is { result ≡ sum_by count_ones bytes.now }
     ensures most { result ≤ 8 * length bytes.now }
 {
@@ -26,9 +27,9 @@ fn ones(bytes: &[u8]) -> u32
 #[inline]
 fn row_dots(columns: usize, row: &[u8]) -> u32
     requires columns { columns ≤ 8 * length row.now }
-    requires row { length row.now ≤ 1024 }
+    requires row { length row.now ≤ most_row_bytes }
     ensures is { result ≡ count_by (λ on. on) (take columns (bits row.now)) }
-    ensures most { result ≤ 8192 }
+    ensures most { result ≤ 8 * most_row_bytes }
 {
     let whole = columns / 8;
     let rest = columns % 8;

@@ -53,9 +53,9 @@ pub struct Job {
     pub seed: u32,
     /// How many pages are made: 1 to 16.
     pub pages: u8,
-    /// Pixels across a made page: 1 to 8,191.
+    /// Pixels across a made page: 1 to `MOST_COLUMNS`.
     pub width: u32,
-    /// Lines down a made page: 1 to 15,840.
+    /// Lines down a made page: 1 to `MOST_ROWS`.
     pub height: u32,
     /// The kind of the made pages.
     pub kind: Kind,

@@ -1,5 +1,5 @@
-//! Print jobs of one page on the printer `tiny`, and that printer's text. They were worked out by hand: the plain job as
-//! bytes, as commands and as the images of its sheet, the others as bytes. They are for the tests of the crates that
+//! Print jobs of one page on the printer `tiny`, and that printer's text. They were worked out by hand: the plain job
+//! as bytes, as commands and as the images of its sheet, the others as bytes. They are for the tests of the crates that
 //! read, run and write jobs, and of those that read and write profiles.
 #![tactic(auto)]
 

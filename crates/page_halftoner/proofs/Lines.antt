@@ -232,8 +232,8 @@ all_diffused f rows room count =
       | inr done ↦ omega (arith, all, rows.from)
     ]
 
--- After the last line of the page each row of the window is diffused, and planes that have the dots so far have those of
--- the halftone.
+-- After the last line of the page each row of the window is diffused, and planes that have the dots so far have those
+-- of the halftone.
 pub whole_page : (h : Halftoning) (lines : List (List ℕ)) (t : DotTable) → StandsFor h lines → h.diffused ≡ (window h).height
     → HasRoom h.form h.profile (dots_in h.dots) → HasSizeOf h.dots.planes t
     → ((i y x : ℕ) → i < t.inks → y < t.rows → x < t.width → dot t i y x ≡ (dots_in h.dots).dot i y x)

@@ -4,8 +4,8 @@ use Rattle.std.specs.Prelude.{ℕ, ◌+◌, ◌*◌, ◌≤◌}
 use Rattle.printer_definitions.specs.Printer.{Printer, row_units}
 use Rattle.page_definitions.specs.Dots.{Halftone}
 
--- The window of a halftone has at least one dot's place and at most 8,191 columns, and ends on a sheet of `tall`
--- rows, which is at most 22 inches long.
+-- The window of a halftone has at least one dot's place and at most as many columns as a page, and ends on a sheet of
+-- `tall` rows, which is no longer than a page.
 pub record Sized (p : Printer) (h : Halftone) (tall : ℕ) : Type 0 where
   pub some_width : 1 ≤ h.width
   pub most_width : h.width ≤ most_columns

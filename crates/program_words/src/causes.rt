@@ -1,6 +1,11 @@
 //! What the causes of error lines mean: the one place that says it. `--help CAUSE` shows these texts, and
 //! `docs/causes.py` puts them into the manual pages and into `docs/USING.md`.
 
+use base_definitions::{MOST_COLUMNS, MOST_ROWS};
+
+// The texts of `Width` and `Height` tell the limits of a page.
+const _: () = prove!(MOST_COLUMNS == 8191 && MOST_ROWS == 22 * 720);
+
 /// A cause of an error line, and what it means.
 #[derive(Clone, Copy, Debug)]
 pub struct CauseText {

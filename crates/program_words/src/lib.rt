@@ -2,8 +2,8 @@
 //!
 //! `read_words` gives the words after the program's name. No clause says which they are, since the system gives them;
 //! the stored runs of the programs test it. `text_of` gives exactly the text that the words ask for, if they ask for
-//! one (`asked_text`): a program's help, its version, or what a cause of an error line means. `text_of` takes no memory.
-//! `CAUSES` is the table of these causes.
+//! one (`asked_text`): a program's help, its version, or what a cause of an error line means. `text_of` takes no
+//! memory. `CAUSES` is the table of these causes.
 #![tactic(auto)]
 
 mod causes;

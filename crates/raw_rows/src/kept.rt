@@ -4,8 +4,8 @@ ghost use Rattle.std.specs.Prelude.{vec_capacity, vec_len, ◌*◌, ◌≡◌, �
 
 use ink_separation::Separator;
 
-/// Rows of a slab by their lines. Line n begins at `len` n, and is the line of the rows whose index is n. Lines stand in
-/// the order of the rows, and there is room for one of each row.
+/// Rows of a slab by their lines. Line n begins at `len` n, and is the line of the rows whose index is n. Lines stand
+/// in the order of the rows, and there is room for one of each row.
 #[derive(Drop)]
 pub struct RawRows {
     pub(crate) separator: Separator,

@@ -71,8 +71,8 @@ fn number_from(index: &mut [u16; 256], y: usize, n: u16)
 }
 
 impl RawRows {
-    /// Room for 1 to 256 rows, of 1 to 8,191 columns. It takes the memory for all lines, and touches that of one. The
-    /// contract does not say what amounts the rows have at first.
+    /// Room for 1 to 256 rows, of 1 to `MOST_COLUMNS` columns. It takes the memory for all lines, and touches that of
+    /// one. The contract does not say what amounts the rows have at first.
     pub fn make(alloc: Global, separator: Separator, rows: u32) -> Result<RawRows, Memory>
         requires { IsSlabSize separator rows }
         ensures rows { IfOk result (λ raw. raw.rows ≡ rows) }

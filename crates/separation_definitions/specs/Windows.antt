@@ -15,7 +15,7 @@ window_of form p = record {
   height = form.height - (p.top + p.bottom);
 }
 
--- The pages that a printer takes: at least one pixel inside its margins, at most 8,191 columns and 22 inches.
+-- The pages that a printer takes: at least one pixel inside its margins, and no more columns and inches than a page.
 abbrev pub wanted_by : Printer → Wanted
 wanted_by p = record {
   hdpi = p.hdpi;

@@ -14,7 +14,7 @@ pub record Shingling : Type 0 where
   pub pitch : ℕ
   pub height : ℕ
 
--- A plan has two nozzles or more, at most 255 rows apart, and a window of at most 15,840 rows.
+-- A plan has two nozzles or more, at most 255 rows apart, and a window of no more rows than a page.
 pub record IsShinglePlan (nozzles pitch height : ℕ) : Type 0 where
   pub some_nozzles : 2 ≤ nozzles
   pub most_nozzles : nozzles ≤ 255

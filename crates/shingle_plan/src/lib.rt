@@ -5,8 +5,8 @@
 //! exactly the count, `first_row` exactly where a pass begins, and `row` exactly the row that a nozzle fires in a pass,
 //! `None` where it fires nothing; `fires_even` says which columns it fires. `each_row_is_fired_twice` is the law: if
 //! half the nozzles, at least one, and the pitch have no common divisor, each row of a window is fired once at its even
-//! columns and once at its odd ones, and no other row is fired. `specs/Shingles.antt` has the definitions. No call takes
-//! memory.
+//! columns and once at its odd ones, and no other row is fired. `specs/Shingles.antt` has the definitions. No call
+//! takes memory.
 #![tactic(auto)]
 
 mod fits;

@@ -4,10 +4,11 @@
 //!   errors 0, `ink` gives the errors of an ink, and `put` sets those of one ink and keeps all others.
 //!   `BottomEdge::ends` are the last six errors of an ink's two rows, and `cut_ends` puts them in a corner edge.
 //! - `TopEdges`: a bottom edge for each column of tiles. `zero`, `at` and `put` make, give and set them.
-//! - `work`: take any errors that solve the rule for an ink. Where the three edges of the task hold these errors, so do
-//!   the three edges that it gives, and its dots are the rule's; this holds for each ink (`works`). It takes no memory:
-//!   the edges and dots that it gives use the allocations of the task. A `Done` has as many errors and bytes in each
-//!   ink as a tile gives (`IsWhole`).
+//! - `work_in`: take any errors that solve the rule for an ink. Where the three edges of the task hold these errors, so
+//!   do the three edges that `work_in` gives, and its dots are the rule's; this holds for each ink (`works`). `work_in`
+//!   takes no memory: the caller lends it a `TileRoom`, and the edges and dots that it gives use the allocations of the
+//!   task. A `Done` has as many errors and bytes in each ink as a tile gives (`IsWhole`). `work` is `work_in` in a room
+//!   of its own.
 //! - `laws::what_work_gives_is_a_record`, `laws::any_order`: tiles of a board are worked, each from the edges that the
 //!   tiles before it gave, from errors 0 where there is no such tile, and in the first band from the top. Whatever the
 //!   order, each tile that is taken or posted has the dots and edges of row-by-row diffusion below the top.

@@ -12,9 +12,9 @@ pub struct Place {
 /// The size of a window.
 #[derive(Clone, Copy, Debug, PartialEq, Eq)]
 pub struct Shape {
-    /// In pixels: 1 to 8,191.
+    /// In pixels: 1 to `MOST_COLUMNS`.
     pub width: u32,
-    /// In pixels: 1 to 15,840.
+    /// In pixels: 1 to `MOST_ROWS`.
     pub height: u32,
 }
 

@@ -33,7 +33,8 @@ pub record ClosesSlab (k : Table) (rows : AmountTable) (top bottom : List (List 
       → tile_dot (slice_index_or tiles (number_of (window_of rows) p) d).bits i row offset ≡ on k (plane_of rows i) e y x
   pub bottom_is : HasBottom k rows top bottom
 
--- Rows `at` and on have the dots of a slab, and all others are unchanged. `bottom` are the bottom edges of its last band.
+-- Rows `at` and on have the dots of a slab, and all others are unchanged. `bottom` are the bottom edges of its last
+-- band.
 pub record DiffusesSlab (k : Table) (rows : AmountTable) (top bottom : List (List (List ℤ))) (at : ℕ) (old new : Dots) : Type 0 where
   pub size : IsSameSize old new
   pub dots : (i : ℕ) (e : Errors) → AreSlabErrors k rows top i e → (y x : ℕ) → y < rows.rows → x < rows.width

@@ -1,6 +1,6 @@
 //! The files of the current folder as a shelf, which does not say what it holds.
-ghost use Rattle.std.specs.IoError.{raw_os_error};
-ghost use Rattle.std.specs.Prelude.{IfOk, None, true, ◌≡◌};
+ghost use Rattle.std.specs.IoError.{error_kind, raw_os_error};
+ghost use Rattle.std.specs.Prelude.{IfOk, IsTrue, None, ◌↔◌, ◌≡◌};
 ghost use Rattle.weave_base.specs.Shelf.{IsWithin, is_file_name};
 
 use crate::{Found, Shelf, ShelfStop};
@@ -60,7 +60,7 @@ impl<R: Files> Shelf for DirShelf<R> {
         }
         match read_file(&self.rt, alloc, name, most) {
             Ok(found) => Ok(found),
-            Err(error) if is_allocators(&error) => Err(ShelfStop::Memory),
+            Err(error) if is_out_of_memory(&error) => Err(ShelfStop::Memory),
             Err(_) => {
                 self.faults = self.faults.saturating_add(1);
                 Err(ShelfStop::Failed)
@@ -77,8 +77,8 @@ fn is_file_name(name: &str) -> bool
 }
 
 // Whether the program's own allocator refused memory. An error of the system has a number, also where it lacks memory.
-fn is_allocators(error: &io::Error) -> bool
-    ensures { result ≡ true → raw_os_error error.now ≡ None }
+fn is_out_of_memory(error: &io::Error) -> bool
+    ensures { IsTrue result ↔ ((error_kind error.now ≡ ErrorKind.OutOfMemory) × (raw_os_error error.now ≡ None)) }
 {
     error.kind() == ErrorKind::OutOfMemory && error.raw_os_error().is_none()
 }

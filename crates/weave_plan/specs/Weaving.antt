@@ -8,8 +8,8 @@ pub record Weaving : Type 0 where
   pub pitch : ℕ
   pub height : ℕ
 
--- A plan has a nozzle or more, at most 255 rows apart, a window of at most 15,840 rows, and the inverse of the pitch
--- modulo the number of nozzles.
+-- A plan has a nozzle or more, at most 255 rows apart, a window of no more rows than a page, and the inverse of the
+-- pitch modulo the number of nozzles.
 pub record IsPlan (nozzles pitch height inverse : ℕ) : Type 0 where
   pub some_nozzles : 1 ≤ nozzles
   pub most_nozzles : nozzles ≤ 255

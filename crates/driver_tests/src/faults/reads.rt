@@ -7,8 +7,8 @@ use std::process::Abort;
 use std::test::Fail;
 use std::thread::Threads;
 
-// A run whose reads fail: a command, its input, a byte of the input that is changed, by its place, and the most bytes of
-// a read.
+// A run whose reads fail: a command, its input, a byte of the input that is changed, by its place, and the most bytes
+// of a read.
 type Case = (DriverCommand, Input, Option<(usize, u8)>, u32);
 
 // The bytes of a case.
