@@ -11,15 +11,16 @@ use Rattle.std.proofs.lemmas.List.Sums.{length-filter, sum_by_push}
 use Rattle.std.proofs.lemmas.Slice.Eq.{bytes_eq-Decides}
 use Rattle.key_values.specs.Pairs.{is_key_value, key_of, value_of}
 use Rattle.key_values.specs.Lists.{is_comma}
-use Rattle.job_words.specs.Meaning.{given, gives}
+use Rattle.job_words.specs.Meaning.{given, gives, refused}
 use Rattle.job_words.specs.Table.{profile_key, workers_key}
 use Rattle.job_words.proofs.Bounds.{given_between}
+use Rattle.job_words.proofs.Steps.{first_good as first_accepted}
 use Rattle.spool_words.specs.declared.faults.SpoolCause.{SpoolCause}
 use Rattle.spool_words.specs.declared.faults.SpoolCause.TheVariants.{BadValue, NoSend, NotKeyValue}
 use Rattle.spool_words.specs.declared.faults.SpoolFault.{SpoolFault}
 use Rattle.spool_words.specs.declared.reading.SpoolRequest.{SpoolRequest}
 use Rattle.spool_words.specs.Keys.{SpoolKey, key_named, profile_row, send_key, send_row}
-use Rattle.spool_words.specs.Meaning.{fault_at, faults_at, key_fault, names_of, profile_named, refused, request_of, request_unless, sender_count}
+use Rattle.spool_words.specs.Meaning.{fault_at, faults_at, faults_on, key_fault, names_of, profile_named, request_of, request_unless, sender_count}
 use Rattle.spool_words.specs.Meaning.{spool_meaning, value_fault, word_fault}
 use Rattle.spool_words.specs.Names.{are_names, is_name, names_in}
 use Rattle.spool_words.specs.Requests.{AreNames, IsName, IsWithinBounds}
@@ -47,18 +48,16 @@ good_sender earlier word h sends = by_test (is_key_value word) h where
       (ap (key_fault earlier word) (sym found) ∙ h)
   by_test false h = absurd cc
 
--- the first word, and those after it
-pub record NoneRefused (earlier : List (List ℕ)) (word : List ℕ) (words : List (List ℕ)) : Type 0 where
-  pub good : word_fault earlier word ≡ None
-  pub later : refused words (earlier ++ word ∷ []) ≡ []
+no_cause : (number : ℕ) (o : Option SpoolCause) → faults_at number o ≡ [] → o ≡ None
+no_cause number None h = refl
+no_cause number (Some cause) h = absurd cc
 
-first_good : (words earlier : List (List ℕ)) (word : List ℕ) → refused (word ∷ words) earlier ≡ [] → NoneRefused earlier word words
-unfolding refused
-first_good words earlier word h = by_fault (word_fault earlier word) refl h where
-  by_fault : (o : Option SpoolCause) → word_fault earlier word ≡ o
-      → faults_at (length earlier + 1) o ++ refused words (earlier ++ word ∷ []) ≡ [] → NoneRefused earlier word words
-  by_fault None same h = record { good = same; later = h }
-  by_fault (Some cause) same h = absurd cc
+-- the first word of words that are accepted, and those behind it
+first_good : (words earlier : List (List ℕ)) (word : List ℕ) → refused faults_on (word ∷ words) earlier ≡ []
+    → (word_fault earlier word ≡ None) × (refused faults_on words (earlier ++ word ∷ []) ≡ [])
+first_good words earlier word none =
+    let first = first_accepted faults_on words earlier word none in
+    (no_cause (length earlier + 1) (word_fault earlier word) first.0, first.1)
 
 -- ---- there are at most eight
 
@@ -74,14 +73,14 @@ one_more earlier word few good =
     by_test true same = let fewer = (good_sender earlier word good same).0 in omega (arith, fewer)
     by_test false same = omega arith
 
-few_on : (words earlier : List (List ℕ)) → refused words earlier ≡ [] → sender_count earlier ≤ 8 → sender_count (earlier ++ words) ≤ 8
+few_on : (words earlier : List (List ℕ)) → refused faults_on words earlier ≡ [] → sender_count earlier ≤ 8 → sender_count (earlier ++ words) ≤ 8
 few_on [] earlier none few = omega (arith, ap sender_count (append-nil earlier))
 few_on (word ∷ words) earlier none few =
     let first = first_good words earlier word none in
-    let all = few_on words (earlier ++ word ∷ []) first.later (one_more earlier word few first.good) in
+    let all = few_on words (earlier ++ word ∷ []) first.1 (one_more earlier word few first.0) in
     omega (arith, all, ap sender_count (append_assoc earlier (word ∷ []) words))
 
-pub few_senders : (words : List (List ℕ)) → refused words [] ≡ [] → sender_count words ≤ 8
+pub few_senders : (words : List (List ℕ)) → refused faults_on words [] ≡ [] → sender_count words ≤ 8
 few_senders words none = few_on words [] none (omega arith)
 
 -- ---- their names
@@ -110,11 +109,11 @@ names_are text h =
       each = each_name (names_in text) parts.1;
     }
 
-names_on : (words earlier : List (List ℕ)) → refused words earlier ≡ [] → AllByRecursion AreNames (names_of words)
+names_on : (words earlier : List (List ℕ)) → refused faults_on words earlier ≡ [] → AllByRecursion AreNames (names_of words)
 names_on [] earlier none = tt
 names_on (word ∷ words) earlier none =
     let first = first_good words earlier word none in
-    by_test (gives send_key word) refl first.good (names_on words (earlier ++ word ∷ []) first.later) where
+    by_test (gives send_key word) refl first.0 (names_on words (earlier ++ word ∷ []) first.1) where
       by_test : (test : Bool) → gives send_key word ≡ test → word_fault earlier word ≡ None → AllByRecursion AreNames (names_of words)
           → AllByRecursion AreNames (map (λ other. names_in (value_of other)) (cond test (word ∷ filter (gives send_key) words) (filter (gives send_key) words)))
       by_test true same good later = (names_are (value_of word) (good_sender earlier word good same).1, later)
@@ -136,11 +135,11 @@ good_profile earlier word h named = by_test (is_key_value word) h where
       name_is (value_of word) taken.1
   by_test false h = absurd cc
 
-profile_on : (words earlier : List (List ℕ)) → refused words earlier ≡ [] → IsName (profile_named words)
+profile_on : (words earlier : List (List ℕ)) → refused faults_on words earlier ≡ [] → IsName (profile_named words)
 profile_on [] earlier none = record { some = omega arith; most = omega arith }
 profile_on (word ∷ words) earlier none =
     let first = first_good words earlier word none in
-    by_test (gives profile_key word) refl first.good (profile_on words (earlier ++ word ∷ []) first.later) where
+    by_test (gives profile_key word) refl first.0 (profile_on words (earlier ++ word ∷ []) first.1) where
       by_test : (test : Bool) → gives profile_key word ≡ test → word_fault earlier word ≡ None → IsName (profile_named words)
           → IsName (unwrap_or (option_map value_of (cond test (Some word) (find (gives profile_key) words))) (codes "p360cmyk"))
       by_test true same good later = good_profile earlier word good same
@@ -149,7 +148,7 @@ profile_on (word ∷ words) earlier none =
 -- ---- the request
 
 pub record IsAccepted (words : List (List ℕ)) (request : SpoolRequest) : Type 0 where
-  pub none_refused : refused words [] ≡ []
+  pub none_refused : refused faults_on words [] ≡ []
   pub some_sender : 1 ≤ sender_count words
   pub request_is : request_of words ≡ request
 
@@ -158,14 +157,14 @@ some_if n h = grind (arith, nat_tests)
 
 pub words_accepted : (words : List (List ℕ)) (request : SpoolRequest) → spool_meaning words ≡ Ok request → IsAccepted words request
 unfolding spool_meaning
-words_accepted words request means = by_faults (refused words []) refl means where
-  by_count : (test : Bool) → refused words [] ≡ [] → eqb (sender_count words) 0 ≡ test
+words_accepted words request means = by_faults (refused faults_on words []) refl means where
+  by_count : (test : Bool) → refused faults_on words [] ≡ [] → eqb (sender_count words) 0 ≡ test
       → (if test then Err (fault_at (length words + 1) NoSend) else Ok (request_of words)) ≡ Ok request → IsAccepted words request
   by_count true none same means = absurd cc
   by_count false none same means =
       record { none_refused = none; some_sender = some_if (sender_count words) same; request_is = cc }
 
-  by_faults : (faults : List SpoolFault) → refused words [] ≡ faults → request_unless faults words ≡ Ok request → IsAccepted words request
+  by_faults : (faults : List SpoolFault) → refused faults_on words [] ≡ faults → request_unless faults words ≡ Ok request → IsAccepted words request
   by_faults [] none means = by_count (eqb (sender_count words) 0) none refl means
   by_faults (fault ∷ faults) some means = absurd cc
 
