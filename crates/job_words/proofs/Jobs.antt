@@ -1,10 +1,11 @@
 -- The numbers of a job.
-use Rattle.std.proofs.Common.{◌≡◌, ℕ, List, drop, Ok, subst, arith}
+use Rattle.std.proofs.Common.{◌≡◌, ℕ, ◌≤◌, List, drop, Ok, subst, arith}
 use Rattle.base_definitions.specs.Limits.{most_columns, most_rows}
 use Rattle.job_words.specs.declared.reading.Job.{Job}
 use Rattle.job_words.specs.Jobs.{IsWithinBounds}
 use Rattle.job_words.specs.Meaning.{given, job_meaning}
 use Rattle.job_words.specs.Table.{height_key, most_key, pages_key, seed_key, width_key, workers_key}
+use Rattle.job_words.specs.Values.{greatest_most}
 use Rattle.job_words.proofs.Accepted.{words_accepted}
 use Rattle.job_words.proofs.Bounds.{given_between}
 
@@ -30,3 +31,7 @@ within_bounds words job means =
       some_height = height.least;
       most_height = height.most;
     })
+
+-- a job is taken up to the greatest number of bytes that a word may give
+pub most_of_job : (words : List (List ℕ)) (job : Job) → job_meaning words ≡ Ok job → job.most ≤ greatest_most
+most_of_job words job means = (within_bounds words job means).most_bytes

@@ -45,8 +45,7 @@ pub profile_here : (words : List (List ℕ)) (job : Job)
     × (given profile_key (drop 1 words) ≡ option_map value_of (slice_get words (job.profile_word - 1)))
 profile_here words job means some =
     let at = given_at 2 (drop 1 words) job.profile_word (job_number words job means) some in
-    let place : job.profile_word - 2 + 1 ≡ job.profile_word - 1 = omega (arith, at.0) in
-    (
+    let place : job.profile_word - 2 + 1 ≡ job.profile_word - 1 = omega (arith, at.0) in (
       omega (arith, length-drop 1 words, at.0, at.1),
       at.2 ∙ ap (option_map value_of) (behind words (job.profile_word - 2) ∙ ap (slice_get words) place),
     )
