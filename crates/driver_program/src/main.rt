@@ -9,9 +9,7 @@ mod help;
 
 use driver_core::{Answer, OpenGate, UsageCause, UsageFault, run, tell};
 use help::TEXTS;
-use program_words::{
-    Asked, NoWords, Words, dot_meter, read_command_line, settle_run, show_text,
-};
+use program_words::{Asked, NoWords, Words, dot_meter, read_command_line, settle_run, show_text};
 use std::process::ExitCode;
 use std::thread::Threads;
 use weave_base::{DirShelf, StdSink, StdSource};

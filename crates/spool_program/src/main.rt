@@ -8,9 +8,7 @@ mod help;
 
 use driver_core::OpenGate;
 use help::TEXTS;
-use program_words::{
-    Asked, NoWords, Words, dot_meter, read_command_line, settle_run, show_text,
-};
+use program_words::{Asked, NoWords, Words, dot_meter, read_command_line, settle_run, show_text};
 use spool_core::{SpoolAnswer, SpoolCause, SpoolFault, run_spool, tell};
 use std::process::ExitCode;
 use std::sync::Wait;
