@@ -1,5 +1,5 @@
 -- The words from one on, and the first of them that passes a test.
-use Rattle.std.proofs.Common.{◌≡◌, ℕ, zero, suc, ◌<◌, ◌≤◌, ◌+◌, ◌-◌, Bool, true, false, ◌||◌, cond, List, [], ◌∷◌, ◌++◌, length, take, drop}
+use Rattle.std.proofs.Common.{◌≡◌, ℕ, suc, ◌<◌, ◌≤◌, ◌+◌, ◌-◌, Bool, true, false, cond, List, [], ◌∷◌, ◌++◌, length, take, drop}
 use Rattle.std.proofs.Common.{Some, None, slice_get, add-one, refl, ap, ◌∙◌, arith}
 use Rattle.std.specs.List.{find, list_any, position_from}
 use Rattle.std.proofs.Math.ListN.{drop_of_length-le}

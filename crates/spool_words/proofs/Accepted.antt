@@ -25,7 +25,7 @@ use Rattle.spool_words.specs.Meaning.{spool_meaning, value_fault, word_fault}
 use Rattle.spool_words.specs.Names.{are_names, is_name, names_in}
 use Rattle.spool_words.specs.Requests.{AreNames, IsName, IsWithinBounds}
 
--- ---- a word that gives a sender
+-- ---- an accepted word
 
 good_value : (key : SpoolKey) (before : ℕ) (taken : Bool) → value_fault key before taken ≡ None → (before < key.most) × (taken ≡ true)
 good_value key before taken h = by_tests (ltb before key.most) taken refl h where
@@ -35,17 +35,17 @@ good_value key before taken h = by_tests (ltb before key.most) taken refl h wher
   by_tests true false same h = absurd cc
   by_tests false taken same h = absurd cc
 
-good_sender : (earlier : List (List ℕ)) (word : List ℕ) → word_fault earlier word ≡ None → gives send_key word ≡ true
-    → (sender_count earlier < 8) × (are_names (names_in (value_of word)) ≡ true)
+-- a word with a key of the table: as many as may be have the key, and the key takes its value
+good_key : (key : SpoolKey) (earlier : List (List ℕ)) (word : List ℕ) → key_named key.row.name ≡ Some key
+    → word_fault earlier word ≡ None → gives key.row word ≡ true
+    → (count_by (gives key.row) earlier < key.most) × (key.row.takes (value_of word) ≡ true)
 unfolding word_fault
-good_sender earlier word h sends = by_test (is_key_value word) h where
+good_key key earlier word named h here = by_test (is_key_value word) h where
   by_test : (test : Bool) → (if test then key_fault earlier word (key_named (key_of word)) else Some NotKeyValue) ≡ None
-      → (sender_count earlier < 8) × (are_names (names_in (value_of word)) ≡ true)
+      → (count_by (gives key.row) earlier < key.most) × (key.row.takes (value_of word) ≡ true)
   by_test true h =
-      let is : key_of word ≡ codes "send" = (bytes_eq-Decides (key_of word) (codes "send")).0 sends in
-      let found : key_named (key_of word) ≡ Some send_row = ap key_named is in
-      good_value send_row (sender_count earlier) (are_names (names_in (value_of word)))
-      (ap (key_fault earlier word) (sym found) ∙ h)
+      let is : key_of word ≡ key.row.name = (bytes_eq-Decides (key_of word) key.row.name).0 here in
+      good_value key _ _ (ap (key_fault earlier word) (sym (ap key_named is ∙ named)) ∙ h)
   by_test false h = absurd cc
 
 no_cause : (number : ℕ) (o : Option SpoolCause) → faults_at number o ≡ [] → o ≡ None
@@ -70,7 +70,7 @@ one_more earlier word few good =
     omega (arith, push, bound)
   where
     by_test : (test : Bool) → gives send_key word ≡ test → sender_count earlier + cond test 1 0 ≤ 8
-    by_test true same = let fewer = (good_sender earlier word good same).0 in omega (arith, fewer)
+    by_test true same = let fewer = (good_key send_row earlier word refl good same).0 in omega (arith, fewer)
     by_test false same = omega arith
 
 few_on : (words earlier : List (List ℕ)) → refused faults_on words earlier ≡ [] → sender_count earlier ≤ 8 → sender_count (earlier ++ words) ≤ 8
@@ -116,24 +116,10 @@ names_on (word ∷ words) earlier none =
     by_test (gives send_key word) refl first.0 (names_on words (earlier ++ word ∷ []) first.1) where
       by_test : (test : Bool) → gives send_key word ≡ test → word_fault earlier word ≡ None → AllByRecursion AreNames (names_of words)
           → AllByRecursion AreNames (map (λ other. names_in (value_of other)) (cond test (word ∷ filter (gives send_key) words) (filter (gives send_key) words)))
-      by_test true same good later = (names_are (value_of word) (good_sender earlier word good same).1, later)
+      by_test true same good later = (names_are (value_of word) (good_key send_row earlier word refl good same).1, later)
       by_test false same good later = later
 
 -- ---- the profile's name
-
-good_profile : (earlier : List (List ℕ)) (word : List ℕ) → word_fault earlier word ≡ None → gives profile_key word ≡ true
-    → IsName (value_of word)
-unfolding word_fault
-good_profile earlier word h named = by_test (is_key_value word) h where
-  by_test : (test : Bool) → (if test then key_fault earlier word (key_named (key_of word)) else Some NotKeyValue) ≡ None
-      → IsName (value_of word)
-  by_test true h =
-      let is : key_of word ≡ codes "profile" = (bytes_eq-Decides (key_of word) (codes "profile")).0 named in
-      let found : key_named (key_of word) ≡ Some profile_row = ap key_named is in
-      let taken = good_value profile_row (count_by (gives profile_key) earlier) (is_name (value_of word))
-      (ap (key_fault earlier word) (sym found) ∙ h) in
-      name_is (value_of word) taken.1
-  by_test false h = absurd cc
 
 profile_on : (words earlier : List (List ℕ)) → refused faults_on words earlier ≡ [] → IsName (profile_named words)
 profile_on [] earlier none = record { some = omega arith; most = omega arith }
@@ -142,7 +128,7 @@ profile_on (word ∷ words) earlier none =
     by_test (gives profile_key word) refl first.0 (profile_on words (earlier ++ word ∷ []) first.1) where
       by_test : (test : Bool) → gives profile_key word ≡ test → word_fault earlier word ≡ None → IsName (profile_named words)
           → IsName (unwrap_or (option_map value_of (cond test (Some word) (find (gives profile_key) words))) (codes "p360cmyk"))
-      by_test true same good later = good_profile earlier word good same
+      by_test true same good later = name_is (value_of word) (good_key profile_row earlier word refl good same).1
       by_test false same good later = later
 
 -- ---- the request

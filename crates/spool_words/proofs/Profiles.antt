@@ -1,5 +1,5 @@
 -- The profile that words ask for.
-use Rattle.std.proofs.Common.{◌≡◌, ℕ, ◌<◌, ◌-◌, List, length, codes, Ok, unwrap_or, slice_get, refl, ap, ◌∙◌, arith}
+use Rattle.std.proofs.Common.{◌≡◌, ℕ, ◌<◌, ◌-◌, List, length, codes, Some, Ok, unwrap_or, slice_get, refl, ap, ◌∙◌, arith}
 use Rattle.std.specs.Option.{option_map}
 use Rattle.key_values.specs.Pairs.{value_of}
 use Rattle.job_words.specs.Meaning.{given}
@@ -22,7 +22,8 @@ default_profile words request means zero = rw (not_given 1 words (omega arith) (
 pub profile_here : (words : List (List ℕ)) (request : SpoolRequest)
     → spool_meaning words ≡ Ok request → (request.profile_word ≡ 0 → ⊥) → (request.profile_word - 1 < length words)
     × (given profile_key words ≡ option_map value_of (slice_get words (request.profile_word - 1)))
-profile_here words request means some = (given_at 1 words request.profile_word (request_number words request means) some).1
+profile_here words request means some =
+    let at = given_at 1 words request.profile_word (request_number words request means) some in (at.1, at.2)
 
 pub profile_is : (words : List (List ℕ)) (request : SpoolRequest) (word : List ℕ)
     → spool_meaning words ≡ Ok request → (request.profile_word ≡ 0 → ⊥)
