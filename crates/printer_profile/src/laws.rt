@@ -45,7 +45,6 @@ pub fn checked_can_print(p: Profile)
 
 /// The nozzles and the pitch of a printer that passes its checks have no common divisor, so that its passes fire each
 /// row once.
-#[tactic(auto, using(crate::proofs::CheckedProfiles::is_coprime))]
 pub fn checked_is_coprime(p: Profile)
     ensures { IsOk (check p) → IsGcd p.nozzles p.pitch 1 }
 {}

@@ -6,7 +6,12 @@ use weave_base::Memory;
 /// A meter that counts dots, up to the cap that the words give.
 pub fn dot_meter(alloc: Global) -> Result<Vec<Box<dyn Meter>>, Memory> {
     let mut meters: Vec<Box<dyn Meter>> = Vec::new(alloc);
-    meters.push(Box::new(alloc, DotMeter::make())?)?;
+    let Ok(meter) = Box::new(alloc, DotMeter::make()) else {
+        return Err(Memory);
+    };
+    if meters.push(meter).is_err() {
+        return Err(Memory);
+    }
     Ok(meters)
 }
 
