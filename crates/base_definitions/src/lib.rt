@@ -1,12 +1,14 @@
 //! What definitions of every layer speak of: counting, dots packed into bytes and back, the limits of a page, and the
-//! answer that memory ran out. Definitions, the types that they mention, and `greatest_common_divisor`, which is exactly
-//! that of two numbers below 256, and 0 of two zeros.
+//! answer that memory ran out. Definitions, the types that they mention, `greatest_common_divisor`, which is exactly
+//! that of two numbers below 256, and 0 of two zeros, and `ones_in`, which counts the bits of bytes that are 1.
 #![tactic(auto)]
 
 mod answers;
 mod divisors;
 mod limits;
+mod ones;
 
 pub use answers::Memory;
 pub use divisors::greatest_common_divisor;
 pub use limits::{MOST_COLUMNS, MOST_ROWS};
+pub use ones::ones_in;
