@@ -12,7 +12,7 @@ mod laying;
 
 use crate::places::{reach, row_or_blank, row_start_across};
 use crate::tile_rows::put_dots;
-use base_definitions::Memory;
+use base_definitions::{Memory, ones_in};
 use std::alloc::Global;
 use std::marker::Model;
 use tile_shape::Place;
@@ -178,7 +178,7 @@ fn count_row(row: &[u8]) -> u32
     ensures most { result ≤ 8 * most_row_bytes }
 {
     let (words, rest) = row.split_at(row.len() / 8 * 8);
-    count_words(words) + count_bytes(rest)
+    count_words(words) + ones_in(rest)
 }
 
 // The number of dots in whole words of eight bytes.
@@ -207,18 +207,4 @@ fn count_word(word: &[u8]) -> u32
         word[0], word[1], word[2], word[3], word[4], word[5], word[6], word[7],
     ];
     u64::from_le_bytes(bytes).count_ones()
-}
-
-// The number of dots in a few bytes.
-#[inline]
-fn count_bytes(bytes: &[u8]) -> u32
-    requires { length bytes.now ≤ most_row_bytes }
-    ensures is { result ≡ sum_by count_ones bytes.now }
-    ensures most { result ≤ 8 * length bytes.now }
-{
-    let mut dots = 0;
-    for byte in bytes {
-        dots += byte.count_ones();
-    }
-    dots
 }

@@ -4,24 +4,10 @@ ghost use Rattle.base_definitions.specs.Limits.{most_row_bytes};
 ghost use Rattle.base_definitions.specs.Packed.{bits};
 ghost use Rattle.escp2_definitions.specs.declared.command.Command.TheVariants as command;
 ghost use Rattle.job_lister.specs.Listing.{dot_count};
-ghost use Rattle.std.specs.List.{sum_by};
-ghost use Rattle.std.specs.Prelude.{count_by, count_ones, length, take, true, ◌*◌, ◌≡◌, ◌≤◌};
+ghost use Rattle.std.specs.Prelude.{count_by, length, take, true, ◌*◌, ◌≡◌, ◌≤◌};
 
+use base_definitions::ones_in;
 use escp2_definitions::RasterHead;
-
-// How many bits of some bytes are 1.
-#[inline]
-fn ones(bytes: &[u8]) -> u32
-    requires { length bytes.now ≤ most_row_bytes }
-    ensures is { result ≡ sum_by count_ones bytes.now }
-    ensures most { result ≤ 8 * length bytes.now }
-{
-    let mut sum = 0;
-    for byte in bytes {
-        sum += byte.count_ones();
-    }
-    sum
-}
 
 // How many of the first bits of a row are 1.
 #[inline]
@@ -33,7 +19,7 @@ fn row_dots(columns: usize, row: &[u8]) -> u32
 {
     let whole = columns / 8;
     let rest = columns % 8;
-    let sum = ones(&row[..whole]);
+    let sum = ones_in(&row[..whole]);
     if rest == 0 {
         return sum;
     }

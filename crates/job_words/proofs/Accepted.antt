@@ -1,5 +1,5 @@
 -- What the words of a job are: a command, and words that are all accepted.
-use Rattle.std.proofs.Common.{◌≡◌, ℕ, ◌+◌, Bool, true, false, ◌||◌, cond, if◌then◌else◌, List, [], ◌∷◌, ◌++◌, length, Option, Some, None, Ok}
+use Rattle.std.proofs.Common.{◌≡◌, ℕ, ◌+◌, Bool, true, false, ◌||◌, cond, if◌then◌else◌, List, [], ◌∷◌, drop, length, Option, Some, None, Ok}
 use Rattle.std.proofs.Common.{is_some, refl, arith}
 use Rattle.std.specs.List.{AllByRecursion, find, list_any}
 use Rattle.std.proofs.lemmas.Bool.Decides.{nat_tests}
@@ -8,7 +8,7 @@ use Rattle.job_words.specs.declared.reading.Job.{Job}
 use Rattle.job_words.specs.declared.usage.UsageCause.{UsageCause}
 use Rattle.job_words.specs.declared.usage.UsageCause.TheVariants.{NotKeyValue}
 use Rattle.job_words.specs.declared.usage.UsageFault.{UsageFault}
-use Rattle.job_words.specs.Meaning.{command_meaning, excludes, faults_at, job_meaning, job_of, job_unless}
+use Rattle.job_words.specs.Meaning.{command_meaning, excludes, faults_at, faults_on, job_meaning, job_of, job_unless}
 use Rattle.job_words.specs.Meaning.{key_fault, refused, value_fault, word_fault}
 use Rattle.job_words.specs.Rows.{command_row}
 use Rattle.job_words.specs.Table.{CommandRow, KeyRow, command_named, command_table, key_named}
@@ -41,7 +41,7 @@ found_any p q (y ∷ xs) x h passes = by_test (p y) h (found_any p q xs x) where
 
 pub record IsAccepted (command : CommandRow) (words : List (List ℕ)) (job : Job) : Type 0 where
   pub row : command_row command.verb ≡ command
-  pub none_refused : refused command.keys words [] ≡ []
+  pub none_refused : refused (faults_on command.keys) words [] ≡ []
   pub job_is : job_of command words ≡ job
 
 row_of : (name : List ℕ) (command : CommandRow) → command_named name ≡ Some command → command_row command.verb ≡ command
@@ -50,20 +50,20 @@ row_of name command found =
     (refl, (refl, (refl, (refl, (refl, tt))))) found
 
 pub words_accepted : (words : List (List ℕ)) (job : Job) → job_meaning words ≡ Ok job
-    → (command : CommandRow) × (others : List (List ℕ)) × IsAccepted command others job
+    → (command : CommandRow) × IsAccepted command (drop 1 words) job
 unfolding job_meaning
 words_accepted [] job means = absurd cc
 words_accepted (name ∷ words) job means = by_command (command_named name) refl means where
-  by_faults : (command : CommandRow) (faults : List UsageFault) → command_named name ≡ Some command → refused command.keys words [] ≡ faults
-      → job_unless faults (job_of command words) ≡ Ok job → (command : CommandRow) × (others : List (List ℕ)) × IsAccepted command others job
+  by_faults : (command : CommandRow) (faults : List UsageFault) → command_named name ≡ Some command → refused (faults_on command.keys) words [] ≡ faults
+      → job_unless faults (job_of command words) ≡ Ok job → (command : CommandRow) × IsAccepted command words job
   by_faults command [] found none means =
-      (command, words, record { row = row_of name command found; none_refused = none; job_is = cc })
+      (command, record { row = row_of name command found; none_refused = none; job_is = cc })
   by_faults command (fault ∷ faults) found none means = absurd cc
 
   by_command : (o : Option CommandRow) → command_named name ≡ o → command_meaning words o ≡ Ok job
-      → (command : CommandRow) × (others : List (List ℕ)) × IsAccepted command others job
+      → (command : CommandRow) × IsAccepted command words job
   by_command None found means = absurd cc
-  by_command (Some command) found means = by_faults command (refused command.keys words []) found refl means
+  by_command (Some command) found means = by_faults command (refused (faults_on command.keys) words []) found refl means
 
 -- ---- what is known of an accepted word
 
@@ -77,9 +77,9 @@ good_value false false excluded h = cc
 good_value false true true h = cc
 good_value false true false h = refl
 
-good_word : (keys : List KeyRow) (earlier : List (List ℕ)) (word : List ℕ) → word_fault keys earlier word ≡ None → IsGood keys earlier word
+accepted_word : (keys : List KeyRow) (earlier : List (List ℕ)) (word : List ℕ) → word_fault keys earlier word ≡ None → IsGood keys earlier word
 unfolding word_fault
-good_word keys earlier word h = by_test (is_key_value word) h where
+accepted_word keys earlier word h = by_test (is_key_value word) h where
   by_key : (o : Option KeyRow) → key_named keys (key_of word) ≡ o → key_fault earlier word o ≡ None → IsGood keys earlier word
   by_key None found h = absurd cc
   by_key (Some key) found h = record { known = rw found refl; apart = good_value _ _ _ h }
@@ -88,15 +88,8 @@ good_word keys earlier word h = by_test (is_key_value word) h where
   by_test true h = by_key (key_named keys (key_of word)) refl h
   by_test false h = absurd cc
 
-pub record NoneRefused (keys : List KeyRow) (earlier : List (List ℕ)) (word : List ℕ) (words : List (List ℕ)) : Type 0 where
-  pub good : IsGood keys earlier word
-  pub later : refused keys words (earlier ++ word ∷ []) ≡ []
-
-pub first_good : (keys : List KeyRow) (words earlier : List (List ℕ)) (word : List ℕ)
-    → refused keys (word ∷ words) earlier ≡ [] → NoneRefused keys earlier word words
-unfolding refused
-first_good keys words earlier word h = by_fault (word_fault keys earlier word) refl h where
-  by_fault : (o : Option UsageCause) → word_fault keys earlier word ≡ o
-      → faults_at (length earlier + 2) o ++ refused keys words (earlier ++ word ∷ []) ≡ [] → NoneRefused keys earlier word words
-  by_fault None same h = record { good = good_word keys earlier word same; later = h }
-  by_fault (Some cause) same h = absurd cc
+pub good_word : (keys : List KeyRow) (earlier : List (List ℕ)) (word : List ℕ) → faults_on keys earlier word ≡ [] → IsGood keys earlier word
+good_word keys earlier word none = accepted_word keys earlier word (no_cause (word_fault keys earlier word) none) where
+  no_cause : (o : Option UsageCause) → faults_at (length earlier + 2) o ≡ [] → o ≡ None
+  no_cause None h = refl
+  no_cause (Some cause) h = absurd cc

@@ -1,25 +1,10 @@
 -- Why a word is refused, from its parts.
-use Rattle.std.proofs.Common.{◌≡◌, ℕ, Bool, true, false, cond, List, [], ◌∷◌, Some, None}
-use Rattle.std.proofs.Common.{refl, sym}
+use Rattle.std.proofs.Common.{◌≡◌, ℕ, Bool, true, false, List, Some, None, refl}
 use Rattle.std.specs.List.{list_any}
 use Rattle.job_words.specs.declared.usage.UsageCause.TheVariants.{NotKeyValue, UnknownKey}
-use Rattle.job_words.specs.Values.{is_text}
 use Rattle.job_words.specs.Table.{KeyRow, key_named}
 use Rattle.key_values.specs.Pairs.{is_key_value, key_of, value_of}
 use Rattle.job_words.specs.Meaning.{excludes, gives, value_fault, word_fault}
-
--- a key that is found has the name
-found_key : (keys : List KeyRow) (name : List ℕ) (key : KeyRow) → key_named keys name ≡ Some key → is_text name key.name ≡ true
-found_key [] name key h = cc
-found_key (first ∷ keys) name key h = by_test (is_text name first.name) refl h (found_key keys name key) where
-  by_test : (test : Bool) → is_text name first.name ≡ test → cond test (Some first) (key_named keys name) ≡ Some key
-      → (key_named keys name ≡ Some key → is_text name key.name ≡ true) → is_text name key.name ≡ true
-  by_test true same found later = let one : first ≡ key = cc in rw (← one) same
-  by_test false same found later = later found
-
-pub gives_found : (keys : List KeyRow) (word name : List ℕ) (key : KeyRow)
-    → name ≡ key_of word → Some key ≡ key_named keys name → gives key word ≡ true
-gives_found keys word name key named found = rw (← named) (found_key keys name key (sym found))
 
 -- the causes on one word, in their order
 pub no_key_value : (keys : List KeyRow) (earlier : List (List ℕ)) (word : List ℕ)

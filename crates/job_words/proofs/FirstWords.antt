@@ -1,10 +1,10 @@
--- The words after the command, and the first of them that passes a test.
-use Rattle.std.proofs.Common.{◌≡◌, ℕ, zero, suc, ◌<◌, ◌≤◌, ◌+◌, ◌-◌, Bool, true, false, ◌||◌, cond, List, [], ◌∷◌, ◌++◌, length, take, drop}
-use Rattle.std.proofs.Common.{Some, None, slice_get, add-one, length-drop, refl, ap, sym, ◌∙◌, arith}
+-- The words from one on, and the first of them that passes a test.
+use Rattle.std.proofs.Common.{◌≡◌, ℕ, suc, ◌<◌, ◌≤◌, ◌+◌, ◌-◌, Bool, true, false, cond, List, [], ◌∷◌, ◌++◌, length, take, drop}
+use Rattle.std.proofs.Common.{Some, None, slice_get, add-one, refl, ap, ◌∙◌, arith}
 use Rattle.std.specs.List.{find, list_any, position_from}
+use Rattle.std.proofs.Math.ListN.{drop_of_length-le}
 use Rattle.std.proofs.lemmas.Bool.Decides.{nat_tests}
-use Rattle.std.proofs.lemmas.List.{drop_more, length-take-le, take_all, take_more}
-use Rattle.std.proofs.lemmas.List.Folds.{list_any-append}
+use Rattle.std.proofs.lemmas.List.{drop_more, length-take-le, take_more}
 use Rattle.std.proofs.lemmas.Option.{get_or_from_slice_get, slice_get_within}
 
 -- the words after the command are counted from 1
@@ -25,11 +25,9 @@ taken xs k x here =
     ∙ ap (λ y. take k xs ++ y ∷ []) (get_or_from_slice_get xs k x x here)
 
 -- a word, in the list from it on
-pub left : (words : List (List ℕ)) (count : ℕ) (word : List ℕ)
-    → slice_get words count ≡ Some word → drop count words ≡ word ∷ drop (count + 1) words
-left words count word here =
-    drop_more words count [] (slice_get_within words count word here)
-    ∙ ap (λ w. w ∷ drop (count + 1) words) (get_or_from_slice_get words count word [] here)
+pub left : {X : Type 0} (xs : List X) (k : ℕ) (x : X) → slice_get xs k ≡ Some x → drop k xs ≡ x ∷ drop (k + 1) xs
+left xs k x here =
+    drop_more xs k x (slice_get_within xs k x here) ∙ ap (λ y. y ∷ drop (k + 1) xs) (get_or_from_slice_get xs k x x here)
 
 pub count_taken : (words : List (List ℕ)) (count : ℕ) (word : List ℕ)
     → slice_get words count ≡ Some word → length (take count words) ≡ count
@@ -37,71 +35,53 @@ count_taken words count word here =
     let within : count < length words = slice_get_within words count word here in
     length-take-le count words (omega arith)
 
--- ---- whether a word passes
+-- ---- the first word that passes, from a word on
 
-pub none_more : {X : Type 0} (p : X → Bool) (xs : List X) (k : ℕ) (x : X) → slice_get xs k ≡ Some x
-    → list_any p (take k xs) ≡ false → p x ≡ false → list_any p (take (k + 1) xs) ≡ false
-none_more p xs k x here none fails = rw (taken xs k x here, list_any-append, none, fails) refl
+pub found : {X : Type 0} (p : X → Bool) (xs : List X) (k : ℕ) (x : X) → slice_get xs k ≡ Some x → p x ≡ true
+    → find p (drop k xs) ≡ Some x
+found p xs k x here passes = rw (left xs k x here, passes) refl
 
-some_in : {X : Type 0} (p : X → Bool) (xs : List X) (k n : ℕ) (x : X) → slice_get xs k ≡ Some x
-    → k < n → p x ≡ true → list_any p (take n xs) ≡ true
-some_in p [] k n x here within passes = cc
-some_in p (y ∷ xs) k zero x here within passes = absurd (omega arith)
-some_in p (y ∷ xs) zero (suc n) x here within passes =
-    let same : y ≡ x = cc in
-    rw (same, passes) refl
-some_in p (y ∷ xs) (suc k) (suc n) x here within passes =
-    let later = some_in p xs k n x here (omega arith) passes in
-    rw later (grind (arith, nat_tests))
+pub found_later : {X : Type 0} (p : X → Bool) (xs : List X) (k : ℕ) (x : X) → slice_get xs k ≡ Some x → p x ≡ false
+    → find p (drop k xs) ≡ find p (drop (k + 1) xs)
+found_later p xs k x here fails = rw (left xs k x here, fails) refl
 
-pub no_word_more : (p : List ℕ → Bool) (words : List (List ℕ)) (i : ℕ) (word : List ℕ) → 1 ≤ i → slice_get words i ≡ Some word
-    → list_any p (take (i - 1) (drop 1 words)) ≡ false → p word ≡ false
-    → list_any p (take (i + 1 - 1) (drop 1 words)) ≡ false
-no_word_more p words i word counted here none fails =
-    let next : i + 1 - 1 ≡ i - 1 + 1 = omega arith in
-    rw next (none_more p (drop 1 words) (i - 1) word (word_behind words i word counted here) none fails)
+pub not_found : {X : Type 0} (p : X → Bool) (xs : List X) (k : ℕ) → length xs ≤ k → find p (drop k xs) ≡ None
+not_found p xs k all = ap (find p) (drop_of_length-le xs all)
 
-pub some_word : (p : List ℕ → Bool) (words : List (List ℕ)) (i place : ℕ) (word : List ℕ) → 1 ≤ i → i < place
-    → slice_get words i ≡ Some word → p word ≡ true → list_any p (take (place - 1) (drop 1 words)) ≡ true
-some_word p words i place word counted before here passes =
-    some_in p (drop 1 words) (i - 1) (place - 1) word (word_behind words i word counted here) (omega arith) passes
+pub at_place : {X : Type 0} (p : X → Bool) (n : ℕ) (xs : List X) (k : ℕ) (x : X) → slice_get xs k ≡ Some x → p x ≡ true
+    → position_from p n (drop k xs) ≡ Some n
+at_place p n xs k x here passes = rw (left xs k x here, passes) refl
 
--- ---- the first word that passes
+pub at_later : {X : Type 0} (p : X → Bool) (n : ℕ) (xs : List X) (k : ℕ) (x : X) → slice_get xs k ≡ Some x → p x ≡ false
+    → position_from p n (drop k xs) ≡ position_from p (n + 1) (drop (k + 1) xs)
+at_later p n xs k x here fails = rw (left xs k x here, fails) refl
+
+pub at_none : {X : Type 0} (p : X → Bool) (n : ℕ) (xs : List X) (k : ℕ) → length xs ≤ k → position_from p n (drop k xs) ≡ None
+at_none p n xs k all = ap (position_from p n) (drop_of_length-le xs all)
+
+-- ---- whether a word from one on and before another passes
+
+pub one_before : {X : Type 0} (p : X → Bool) (xs : List X) (k n : ℕ) (x : X) → k < n → slice_get xs k ≡ Some x → p x ≡ true
+    → list_any p (take (n - k) (drop k xs)) ≡ true
+one_before p xs k n x before here passes =
+    let next : n - k ≡ suc (n - (k + 1)) = omega arith in
+    rw (next, left xs k x here, passes) refl
+
+pub later_before : {X : Type 0} (p : X → Bool) (xs : List X) (k n : ℕ) (x : X) → k < n → slice_get xs k ≡ Some x → p x ≡ false
+    → list_any p (take (n - k) (drop k xs)) ≡ list_any p (take (n - (k + 1)) (drop (k + 1) xs))
+later_before p xs k n x before here fails =
+    let next : n - k ≡ suc (n - (k + 1)) = omega arith in
+    rw (next, left xs k x here, fails) refl
+
+pub none_before : {X : Type 0} (p : X → Bool) (xs : List X) (k n : ℕ) → n ≤ k → list_any p (take (n - k) (drop k xs)) ≡ false
+none_before p xs k n all = let none : n - k ≡ 0 = omega arith in rw none refl
+
+-- ---- the first word that passes, and its place
 
 pub find_none : {X : Type 0} (p : X → Bool) (xs : List X) → list_any p xs ≡ false → find p xs ≡ None
 find_none p [] h = refl
 find_none p (x ∷ xs) h = grind (arith, nat_tests, find_none p xs)
 
-pub position_none : {X : Type 0} (p : X → Bool) (n : ℕ) (xs : List X) → list_any p xs ≡ false → position_from p n xs ≡ None
-position_none p n [] h = refl
-position_none p n (x ∷ xs) h = grind (arith, nat_tests, position_none p (n + 1) xs)
-
-pub find_at : {X : Type 0} (p : X → Bool) (xs : List X) (k : ℕ) (x : X) → slice_get xs k ≡ Some x
-    → list_any p (take k xs) ≡ false → p x ≡ true → find p xs ≡ Some x
-find_at p [] k x here none passes = cc
-find_at p (y ∷ xs) zero x here none passes =
-    let same : y ≡ x = cc in
-    rw (same, passes) refl
-find_at p (y ∷ xs) (suc k) x here none passes = by_test (p y) none (find_at p xs k x here) where
-  by_test : (test : Bool) → (test || list_any p (take k xs)) ≡ false
-      → (list_any p (take k xs) ≡ false → p x ≡ true → find p xs ≡ Some x) → cond test (Some y) (find p xs) ≡ Some x
-  by_test true none later = cc
-  by_test false none later = later none passes
-
-pub position_at : {X : Type 0} (p : X → Bool) (n : ℕ) (xs : List X) (k : ℕ) (x : X) → slice_get xs k ≡ Some x
-    → list_any p (take k xs) ≡ false → p x ≡ true → position_from p n xs ≡ Some (n + k)
-position_at p n [] k x here none passes = cc
-position_at p n (y ∷ xs) zero x here none passes =
-    let same : y ≡ x = cc in
-    rw (same, passes) (ap Some (omega arith))
-position_at p n (y ∷ xs) (suc k) x here none passes = by_test (p y) none (position_at p (n + 1) xs k x here) where
-  by_test : (test : Bool) → (test || list_any p (take k xs)) ≡ false
-      → (list_any p (take k xs) ≡ false → p x ≡ true → position_from p (n + 1) xs ≡ Some (n + 1 + k))
-      → cond test (Some n) (position_from p (n + 1) xs) ≡ Some (n + suc k)
-  by_test true none later = cc
-  by_test false none later = later none passes ∙ ap Some (omega arith)
-
--- the first that passes is at its place
 pub placed : {X : Type 0} (p : X → Bool) (k : ℕ) (xs : List X) (n : ℕ)
     → position_from p k xs ≡ Some n → (k ≤ n) × (n - k < length xs) × (find p xs ≡ slice_get xs (n - k))
 placed p k [] n h = cc
@@ -125,27 +105,3 @@ unplaced p k (x ∷ xs) h = by_test (p x) h (unplaced p (k + 1) xs) where
       → (position_from p (k + 1) xs ≡ None → find p xs ≡ None) → cond test (Some x) (find p xs) ≡ None
   by_test true is later = cc
   by_test false is later = later is
-
-none_at_all : (p : List ℕ → Bool) (words : List (List ℕ)) (i : ℕ) → length words ≤ i
-    → list_any p (take (i - 1) (drop 1 words)) ≡ false → list_any p (drop 1 words) ≡ false
-none_at_all p words i all none =
-    ap (list_any p) (sym (take_all (i - 1) (drop 1 words) (omega (arith, length-drop 1 words)))) ∙ none
-
-pub first_word : (p : List ℕ → Bool) (words : List (List ℕ)) (i : ℕ) (word : List ℕ) → 1 ≤ i → slice_get words i ≡ Some word
-    → list_any p (take (i - 1) (drop 1 words)) ≡ false → p word ≡ true → find p (drop 1 words) ≡ Some word
-first_word p words i word counted here none passes =
-    find_at p (drop 1 words) (i - 1) word (word_behind words i word counted here) none passes
-
-pub no_first_word : (p : List ℕ → Bool) (words : List (List ℕ)) (i : ℕ) → length words ≤ i
-    → list_any p (take (i - 1) (drop 1 words)) ≡ false → find p (drop 1 words) ≡ None
-no_first_word p words i all none = find_none p (drop 1 words) (none_at_all p words i all none)
-
-pub first_place : (p : List ℕ → Bool) (words : List (List ℕ)) (i : ℕ) (word : List ℕ) → 1 ≤ i → slice_get words i ≡ Some word
-    → list_any p (take (i - 1) (drop 1 words)) ≡ false → p word ≡ true
-    → position_from p 2 (drop 1 words) ≡ Some (i + 1)
-first_place p words i word counted here none passes =
-    position_at p 2 (drop 1 words) (i - 1) word (word_behind words i word counted here) none passes ∙ ap Some (omega arith)
-
-pub no_first_place : (p : List ℕ → Bool) (words : List (List ℕ)) (i : ℕ) → length words ≤ i
-    → list_any p (take (i - 1) (drop 1 words)) ≡ false → position_from p 2 (drop 1 words) ≡ None
-no_first_place p words i all none = position_none p 2 (drop 1 words) (none_at_all p words i all none)

@@ -1,5 +1,5 @@
 -- Jobs with shingled passes, dead nozzles or a cap.
-use Rattle.std.proofs.Common.{◌≡◌, ℕ, Bool, true, false, ◌&&◌, ◌||◌, if◌then◌else◌, List, [], ◌∷◌, ◌++◌}
+use Rattle.std.proofs.Common.{◌≡◌, ℕ, Bool, true, false, ◌&&◌, ◌||◌, if◌then◌else◌, List, [], ◌∷◌, ◌++◌, drop}
 use Rattle.std.proofs.Common.{codes, Option, Some, None, Ok, is_some, unwrap_or, refl, ap, sym, ◌∙◌, subst, arith, append-nil, append_assoc}
 use Rattle.std.specs.List.{find, list_any}
 use Rattle.std.specs.Option.{option_and_then, option_map}
@@ -11,13 +11,14 @@ use Rattle.job_words.specs.declared.reading.Job.{Job}
 use Rattle.job_words.specs.declared.table.Verb.{Verb}
 use Rattle.job_words.specs.declared.table.Verb.TheVariants as verb
 use Rattle.job_words.specs.Jobs.{IsOneWay}
-use Rattle.job_words.specs.Meaning.{asks_for_shingles, given_as, gives, job_meaning, refused}
+use Rattle.job_words.specs.Meaning.{asks_for_shingles, faults_on, given_as, gives, job_meaning, refused}
 use Rattle.job_words.specs.Rows.{command_row}
 use Rattle.job_words.specs.Table.{CommandRow, KeyRow, cap_key, dead_key, key_named, shingle_key}
 use Rattle.job_words.specs.DeadLists.{dead_value}
 use Rattle.job_words.specs.Values.{cap_value, is_text, shingle_value}
-use Rattle.job_words.proofs.Accepted.{IsGood, first_good, found_any, found_passes, words_accepted}
+use Rattle.job_words.proofs.Accepted.{IsGood, found_any, found_passes, good_word, words_accepted}
 use Rattle.job_words.proofs.FirstWords.{find_none}
+use Rattle.job_words.proofs.Steps.{first_good}
 
 -- ---- words that exclude each other are not both there
 
@@ -55,13 +56,13 @@ one_more keys earlier word old good =
     (not_both (list_any asks_for_shingles earlier) (list_any (gives dead_key) earlier) (asks_for_shingles word) (gives dead_key word)
     old apart (one_of_both word))
 
-apart_on : (keys : List KeyRow) (words earlier : List (List ℕ)) → refused keys words earlier ≡ [] → asks_both earlier ≡ false
+apart_on : (keys : List KeyRow) (words earlier : List (List ℕ)) → refused (faults_on keys) words earlier ≡ [] → asks_both earlier ≡ false
     → asks_both (earlier ++ words) ≡ false
 apart_on keys [] earlier none old = ap asks_both (append-nil earlier) ∙ old
 apart_on keys (word ∷ words) earlier none old =
-    let first = first_good keys words earlier word none in
+    let first = first_good (faults_on keys) words earlier word none in
     ap asks_both (sym (append_assoc earlier (word ∷ []) words))
-    ∙ apart_on keys words (earlier ++ word ∷ []) first.later (one_more keys earlier word old first.good)
+    ∙ apart_on keys words (earlier ++ word ∷ []) first.1 (one_more keys earlier word old (good_word keys earlier word first.0))
 
 -- the words of a shingled job
 shingled_text : (text : List ℕ) → shingle_value text ≡ Some true → is_text text (codes "1") ≡ true
@@ -97,19 +98,19 @@ second_fails a b both first = grind (arith, nat_tests)
 pub one_way : (words : List (List ℕ)) (job : Job) → job_meaning words ≡ Ok job → IsOneWay job
 one_way words job means =
     let all = words_accepted words job means in
-    let others : List (List ℕ) = all.1 in
-    let good = all.2 in
+    let others : List (List ℕ) = drop 1 words in
+    let good = all.1 in
     subst (λ (j : Job). IsOneWay j) good.job_is
     (λ shingled. no_dead others (second_fails _ _ (apart_on all.0.keys others [] good.none_refused refl) (asked others shingled)))
 
 -- ---- commands without the keys
 
 no_key_on : (keys : List KeyRow) (key : KeyRow) (words earlier : List (List ℕ)) → is_some (key_named keys key.name) ≡ false
-    → refused keys words earlier ≡ [] → list_any (gives key) words ≡ false
+    → refused (faults_on keys) words earlier ≡ [] → list_any (gives key) words ≡ false
 no_key_on keys key [] earlier unknown none = refl
 no_key_on keys key (word ∷ words) earlier unknown none =
-    let first = first_good keys words earlier word none in
-    by_test (gives key word) refl first.good (no_key_on keys key words (earlier ++ word ∷ []) unknown first.later) where
+    let first = first_good (faults_on keys) words earlier word none in
+    by_test (gives key word) refl (good_word keys earlier word first.0) (no_key_on keys key words (earlier ++ word ∷ []) unknown first.1) where
       by_test : (test : Bool) → gives key word ≡ test → IsGood keys earlier word → list_any (gives key) words ≡ false
           → (test || list_any (gives key) words) ≡ false
       by_test true here good later =
@@ -121,7 +122,7 @@ abbrev pub IsWhole : Job → Type 0
 IsWhole job = (job.shingle ≡ false) × (job.dead.items ≡ [])
 
 whole : (keys : List KeyRow) (words : List (List ℕ)) → is_some (key_named keys shingle_key.name) ≡ false
-    → is_some (key_named keys dead_key.name) ≡ false → refused keys words [] ≡ []
+    → is_some (key_named keys dead_key.name) ≡ false → refused (faults_on keys) words [] ≡ []
     → (unwrap_or (given_as shingle_key shingle_value words) false ≡ false) × (unwrap_or (given_as dead_key dead_value words) [] ≡ [])
 whole keys words shingles dead none =
     (no_shingles words (no_key_on keys shingle_key words [] shingles none), no_dead words (no_key_on keys dead_key words [] dead none))
@@ -131,14 +132,14 @@ pub whole_head : (words : List (List ℕ)) (job : Job) → job_meaning words ≡
 whole_head words job means print trial =
     let all = words_accepted words job means in
     let command : CommandRow = all.0 in
-    let good = all.2 in
+    let good = all.1 in
     subst (λ (j : Job). IsWhole j) good.job_is
-    (by_verb command.verb all.1
+    (by_verb command.verb (drop 1 words)
     (λ same. print (ap (λ (j : Job). j.verb) (sym good.job_is) ∙ same)) (λ same. trial (ap (λ (j : Job). j.verb) (sym good.job_is) ∙ same))
-    (ap (λ (row : CommandRow). refused row.keys all.1 []) good.row ∙ good.none_refused))
+    (ap (λ (row : CommandRow). refused (faults_on row.keys) (drop 1 words) []) good.row ∙ good.none_refused))
   where
     by_verb : (which : Verb) (others : List (List ℕ)) → (which ≡ verb.Print → ⊥) → (which ≡ verb.Trial → ⊥)
-        → refused (command_row which).keys others [] ≡ []
+        → refused (faults_on (command_row which).keys) others [] ≡ []
         → (unwrap_or (given_as shingle_key shingle_value others) false ≡ false) × (unwrap_or (given_as dead_key dead_value others) [] ≡ [])
     by_verb verb.Print others print trial none = absurd (print refl)
     by_verb verb.Trial others print trial none = absurd (trial refl)
@@ -148,7 +149,7 @@ whole_head words job means print trial =
 
 -- ---- commands without a cap
 
-no_cap : (keys : List KeyRow) (words : List (List ℕ)) → is_some (key_named keys cap_key.name) ≡ false → refused keys words [] ≡ []
+no_cap : (keys : List KeyRow) (words : List (List ℕ)) → is_some (key_named keys cap_key.name) ≡ false → refused (faults_on keys) words [] ≡ []
     → given_as cap_key cap_value words ≡ None
 no_cap keys words unknown none =
     ap (λ o. option_and_then cap_value (option_map value_of o)) (find_none (gives cap_key) words (no_key_on keys cap_key words [] unknown none))
@@ -158,12 +159,12 @@ pub uncapped : (words : List (List ℕ)) (job : Job) → job_meaning words ≡ O
 uncapped words job means print =
     let all = words_accepted words job means in
     let command : CommandRow = all.0 in
-    let good = all.2 in
+    let good = all.1 in
     subst (λ (j : Job). j.cap ≡ None) good.job_is
-    (by_verb command.verb all.1 (λ same. print (ap (λ (j : Job). j.verb) (sym good.job_is) ∙ same))
-    (ap (λ (row : CommandRow). refused row.keys all.1 []) good.row ∙ good.none_refused))
+    (by_verb command.verb (drop 1 words) (λ same. print (ap (λ (j : Job). j.verb) (sym good.job_is) ∙ same))
+    (ap (λ (row : CommandRow). refused (faults_on row.keys) (drop 1 words) []) good.row ∙ good.none_refused))
   where
-    by_verb : (which : Verb) (others : List (List ℕ)) → (which ≡ verb.Print → ⊥) → refused (command_row which).keys others [] ≡ []
+    by_verb : (which : Verb) (others : List (List ℕ)) → (which ≡ verb.Print → ⊥) → refused (faults_on (command_row which).keys) others [] ≡ []
         → given_as cap_key cap_value others ≡ None
     by_verb verb.Print others print none = absurd (print refl)
     by_verb verb.Trial others print none = no_cap (command_row verb.Trial).keys others refl none

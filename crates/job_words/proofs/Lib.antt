@@ -7,7 +7,6 @@ pub mod Given
 pub mod Heads
 pub mod Jobs
 pub mod Meanings
-pub mod Most
 pub mod NozzleLists
 pub mod Profiles
 pub mod Steps

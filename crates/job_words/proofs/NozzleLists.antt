@@ -1,6 +1,6 @@
 -- The numbers of a list of dead nozzles.
 use Rattle.std.proofs.Common.{◌≡◌, ℕ, ◌+◌, ◌-◌, ◌<◌, ◌≤◌, Bool, true, false, ◌&&◌, if◌then◌else◌, nat_lt, List, [], ◌∷◌}
-use Rattle.std.proofs.Common.{length, Option, Some, None, Ok, unwrap_or, refl, ap, ◌∙◌, subst, arith}
+use Rattle.std.proofs.Common.{drop, length, Option, Some, None, Ok, unwrap_or, refl, ap, ◌∙◌, subst, arith}
 use Rattle.std.specs.List.{AllByRecursion, list_all, slice_split}
 use Rattle.std.specs.Option.{option_and_then}
 use Rattle.std.proofs.lemmas.Bool.{ltb-true, lt-ltb}
@@ -85,7 +85,7 @@ given_nozzles (Some text) = by_list (dead_value text) refl where
 pub nozzles_of_job : (words : List (List ℕ)) (job : Job) → job_meaning words ≡ Ok job → AreNozzles job.dead.items
 nozzles_of_job words job means =
     let all = words_accepted words job means in
-    subst (λ (j : Job). AreNozzles j.dead.items) all.2.job_is (given_nozzles (given dead_key all.1))
+    subst (λ (j : Job). AreNozzles j.dead.items) all.1.job_is (given_nozzles (given dead_key (drop 1 words)))
 
 -- ---- what is written
 

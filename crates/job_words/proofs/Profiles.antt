@@ -1,57 +1,56 @@
--- The profile of a job.
-use Rattle.std.proofs.Common.{◌≡◌, ℕ, ◌<◌, ◌+◌, ◌-◌, List, [], ◌∷◌, length, drop, codes, Option, Some, None}
+-- The profile that words give, by the number of its word; 0 where no word gives it.
+use Rattle.std.proofs.Common.{◌≡◌, ℕ, ◌<◌, ◌≤◌, ◌+◌, ◌-◌, List, length, drop, codes, Option, Some, None}
 use Rattle.std.proofs.Common.{Ok, unwrap_or, slice_get, length-drop, refl, ap, sym, ◌∙◌, arith}
+use Rattle.std.specs.List.{position_from}
 use Rattle.std.specs.Option.{option_map}
-use Rattle.job_words.specs.declared.usage.UsageFault.{UsageFault}
-use Rattle.job_words.specs.Table.{CommandRow, command_named, profile_key}
 use Rattle.key_values.specs.Pairs.{value_of}
-use Rattle.job_words.specs.Meaning.{gives, given, refused, given_profile_word, job_of, job_unless}
-use Rattle.job_words.specs.Meaning.{command_meaning, job_meaning, profile_named}
+use Rattle.job_words.specs.Meaning.{gives, given, given_profile_word, job_meaning, profile_named}
+use Rattle.job_words.specs.Table.{profile_key}
 use Rattle.job_words.specs.declared.reading.Job.{Job}
+use Rattle.job_words.proofs.Accepted.{words_accepted}
 use Rattle.job_words.proofs.FirstWords.{behind, placed, unplaced}
 
--- a job has the number of the profile's word
+-- ---- of words that are numbered from k on
+
+pub not_given : (k : ℕ) (words : List (List ℕ)) → 1 ≤ k → unwrap_or (position_from (gives profile_key) k words) 0 ≡ 0
+    → given profile_key words ≡ None
+not_given k words some none = by_number (position_from (gives profile_key) k words) refl none where
+  by_number : (number : Option ℕ) → position_from (gives profile_key) k words ≡ number → unwrap_or number 0 ≡ 0
+      → given profile_key words ≡ None
+  by_number None is none = ap (option_map value_of) (unplaced (gives profile_key) k words is)
+  by_number (Some n) is none = let at = placed (gives profile_key) k words n is in absurd (omega arith)
+
+pub given_at : (k : ℕ) (words : List (List ℕ)) (n : ℕ) → unwrap_or (position_from (gives profile_key) k words) 0 ≡ n → (n ≡ 0 → ⊥)
+    → (k ≤ n) × (n - k < length words) × (given profile_key words ≡ option_map value_of (slice_get words (n - k)))
+given_at k words n is some = by_number (position_from (gives profile_key) k words) refl is where
+  by_number : (number : Option ℕ) → position_from (gives profile_key) k words ≡ number → unwrap_or number 0 ≡ n
+      → (k ≤ n) × (n - k < length words) × (given profile_key words ≡ option_map value_of (slice_get words (n - k)))
+  by_number None is none = absurd (some (sym none))
+  by_number (Some m) is same =
+      let at = placed (gives profile_key) k words n (is ∙ ap Some same) in (at.0, at.1, ap (option_map value_of) at.2)
+
+-- ---- of a job
+
 job_number : (words : List (List ℕ)) (job : Job)
     → job_meaning words ≡ Ok job → unwrap_or (given_profile_word (drop 1 words)) 0 ≡ job.profile_word
-unfolding job_meaning
-job_number [] job h = cc
-job_number (name ∷ words) job h = by_command (command_named name) h where
-  by_faults : (command : CommandRow) (faults : List UsageFault)
-      → job_unless faults (job_of command words) ≡ Ok job → unwrap_or (given_profile_word words) 0 ≡ job.profile_word
-  by_faults command [] is = let same : job_of command words ≡ job = cc in ap (λ (j : Job). j.profile_word) same
-  by_faults command (fault ∷ faults) is = cc
+job_number words job means = ap (λ (j : Job). j.profile_word) (words_accepted words job means).1.job_is
 
-  by_command : (command : Option CommandRow)
-      → command_meaning words command ≡ Ok job → unwrap_or (given_profile_word words) 0 ≡ job.profile_word
-  by_command None is = cc
-  by_command (Some command) is = by_faults command (refused command.keys words []) is
-
--- the two cases of a job's profile
+-- the two cases of its profile
 pub default_profile : (words : List (List ℕ)) (job : Job)
     → job_meaning words ≡ Ok job → job.profile_word ≡ 0 → codes "p360cmyk" ≡ profile_named words
-default_profile words job h zero = by_number (given_profile_word (drop 1 words)) refl (job_number words job h ∙ zero) where
-  by_number : (number : Option ℕ)
-      → given_profile_word (drop 1 words) ≡ number → unwrap_or number 0 ≡ 0 → codes "p360cmyk" ≡ profile_named words
-  by_number None is none = rw (unplaced (gives profile_key) 2 (drop 1 words) is) refl
-  by_number (Some n) is none = let at = placed (gives profile_key) 2 (drop 1 words) n is in absurd (omega arith)
+default_profile words job means zero = rw (not_given 2 (drop 1 words) (omega arith) (job_number words job means ∙ zero)) refl
 
 pub profile_here : (words : List (List ℕ)) (job : Job)
     → job_meaning words ≡ Ok job → (job.profile_word ≡ 0 → ⊥) → (job.profile_word - 1 < length words)
     × (given profile_key (drop 1 words) ≡ option_map value_of (slice_get words (job.profile_word - 1)))
-profile_here words job h some = by_number (given_profile_word (drop 1 words)) refl (job_number words job h) where
-  by_number : (number : Option ℕ) → given_profile_word (drop 1 words) ≡ number
-      → unwrap_or number 0 ≡ job.profile_word → (job.profile_word - 1 < length words)
-      × (given profile_key (drop 1 words) ≡ option_map value_of (slice_get words (job.profile_word - 1)))
-  by_number None is value = absurd (some (sym value))
-  by_number (Some n) is value =
-      let at = placed (gives profile_key) 2 (drop 1 words) n is in
-      let place : n - 2 + 1 ≡ job.profile_word - 1 = omega arith in
-      (omega (arith, length-drop 1 words), ap (option_map value_of) (at.2 ∙ (behind words (n - 2) ∙ ap (slice_get words) place)))
+profile_here words job means some =
+    let at = given_at 2 (drop 1 words) job.profile_word (job_number words job means) some in
+    let place : job.profile_word - 2 + 1 ≡ job.profile_word - 1 = omega (arith, at.0) in (
+      omega (arith, length-drop 1 words, at.0, at.1),
+      at.2 ∙ ap (option_map value_of) (behind words (job.profile_word - 2) ∙ ap (slice_get words) place),
+    )
 
 pub profile_is : (words : List (List ℕ)) (job : Job) (word : List ℕ)
     → job_meaning words ≡ Ok job → (job.profile_word ≡ 0 → ⊥)
     → slice_get words (job.profile_word - 1) ≡ Some word → value_of word ≡ profile_named words
-profile_is words job word h some here =
-    let found : given profile_key (drop 1 words) ≡ Some (value_of word) =
-    (profile_here words job h some).1 ∙ ap (option_map value_of) here in
-    rw found refl
+profile_is words job word means some here = rw ((profile_here words job means some).1, here) refl

@@ -55,12 +55,14 @@ abbrev pub faults_at : ℕ → Option UsageCause → List UsageFault
 faults_at number None = []
 faults_at number (Some cause) = fault_at number cause ∷ []
 
--- All refused words after the command, and why. The command is word 1, so that the first of these is word 2;
--- `earlier` are the words before `words`.
-unfoldable pub refused : List KeyRow → List (List ℕ) → List (List ℕ) → List UsageFault
-refused keys [] earlier = []
-refused keys (word ∷ words) earlier =
-    faults_at (length earlier + 2) (word_fault keys earlier word) ++ refused keys words (earlier ++ word ∷ [])
+-- The faults of a word after the command. The command is word 1, so that the first of these is word 2.
+abbrev pub faults_on : List KeyRow → List (List ℕ) → List ℕ → List UsageFault
+faults_on keys earlier word = faults_at (length earlier + 2) (word_fault keys earlier word)
+
+-- All faults of words, where `faults` says those of a word behind earlier ones; `earlier` are the words before `words`.
+unfoldable pub refused : {F : Type 0} → (List (List ℕ) → List ℕ → List F) → List (List ℕ) → List (List ℕ) → List F
+refused faults [] earlier = []
+refused faults (word ∷ words) earlier = faults earlier word ++ refused faults words (earlier ++ word ∷ [])
 
 -- the value that the words after the command give a key
 abbrev pub given : KeyRow → List (List ℕ) → Option (List ℕ)
@@ -100,7 +102,7 @@ job_unless (fault ∷ faults) job = Err fault
 -- the meaning where the first word names this command, if it names one
 abbrev pub command_meaning : List (List ℕ) → Option CommandRow → Result Job UsageFault
 command_meaning words None = Err (fault_at 1 UnknownCommand)
-command_meaning words (Some command) = job_unless (refused command.keys words []) (job_of command words)
+command_meaning words (Some command) = job_unless (refused (faults_on command.keys) words []) (job_of command words)
 
 -- What a command line means: its job, or the first refused word and why.
 unfoldable pub job_meaning : List (List ℕ) → Result Job UsageFault

@@ -10,12 +10,13 @@ ghost use Rattle.std.specs.List.{AllByRecursion};
 ghost use Rattle.std.specs.Prelude.{List, Ok, Some, [], false, length, ℕ, ◌<◌, ◌≡◌, ◌≤◌};
 
 /// No job reads more bytes than the greatest number that a word may give.
-#[tactic(auto, using(crate::proofs::Most::most_of_job))]
+#[tactic(auto, using(crate::proofs::Jobs::most_of_job))]
 pub fn a_job_has_a_greatest_length()
     ensures { (words : List (List ℕ)) (job : Job) → job_meaning words ≡ Ok job → job.most ≤ greatest_most }
 {}
 
 /// The numbers of a job are those that its words may give.
+#[tactic(auto, using(crate::proofs::Jobs::within_bounds))]
 pub fn a_job_is_within_bounds()
     ensures { (words : List (List ℕ)) (job : Job) → job_meaning words ≡ Ok job → IsWithinBounds job }
 {}
@@ -26,6 +27,7 @@ pub fn dead_nozzles_rise()
 {}
 
 /// A job whose passes are shingled has no dead nozzle.
+#[tactic(auto, using(crate::proofs::Heads::one_way))]
 pub fn shingled_heads_have_no_dead_nozzle()
     ensures { (words : List (List ℕ)) (job : Job) → job_meaning words ≡ Ok job → IsOneWay job }
 {}
@@ -38,6 +40,7 @@ pub fn other_commands_have_whole_heads()
 {}
 
 /// A list of nozzles in rising order is read as it is written: in decimal, with commas between.
+#[tactic(auto, using(crate::proofs::NozzleLists::written_is_read))]
 pub fn a_written_list_is_read()
     ensures { (numbers : List ℕ) → 1 ≤ length numbers → IsRising numbers
         → AllByRecursion (λ number. number < 255) numbers → dead_value (dead_text numbers) ≡ Some numbers }

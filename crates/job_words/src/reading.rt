@@ -1,6 +1,6 @@
 //! Reading the words of a command line.
 ghost use Rattle.job_words.specs.DeadLists.{dead_value as dead_of};
-ghost use Rattle.job_words.specs.Meaning.{given_as, job_meaning, job_of, profile_named};
+ghost use Rattle.job_words.specs.Meaning.{faults_on, given_as, job_meaning, job_of, profile_named};
 ghost use Rattle.job_words.specs.Meaning.{refused, word_fault};
 ghost use Rattle.job_words.specs.Rows.{command_row};
 ghost use Rattle.job_words.specs.Table.{dead_key};
@@ -86,9 +86,9 @@ fn refusal(verb: Verb, words: &Words, place: u32, word: &str) -> Option<UsageCau
 
 // Refuses the first bad word after the command.
 fn check_words(verb: Verb, words: &Words) -> Result<(), UsageFault>
-    ensures accepted { OnOk result (refused (command_row verb).keys (drop 1 words.now) [] ≡ []) }
+    ensures accepted { OnOk result (refused (faults_on (command_row verb).keys) (drop 1 words.now) [] ≡ []) }
     ensures fault { IfErr result (λ fault.
-        slice_get (refused (command_row verb).keys (drop 1 words.now) []) 0 ≡ Some fault) }
+        slice_get (refused (faults_on (command_row verb).keys) (drop 1 words.now) []) 0 ≡ Some fault) }
 {
     for i in 1..words.len() {
         if let Some(cause) = refusal(verb, words, i, words.get(i)) {

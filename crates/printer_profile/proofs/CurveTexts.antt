@@ -5,7 +5,7 @@ use Rattle.std.specs.Fmt.{decimal}
 use Rattle.std.specs.List.{AllByRecursion, list_all}
 use Rattle.std.proofs.lemmas.Bool.{and_parts, ltb-true}
 use Rattle.std.proofs.lemmas.Bool.Decides.{nat_tests}
-use Rattle.std.proofs.lemmas.List.{take_all, take_more}
+use Rattle.std.proofs.lemmas.List.{length-map, take_all, take_more}
 use Rattle.key_values.specs.Lists.{list_text}
 use Rattle.key_values.proofs.Lists.{numbers_read, parts_written}
 use Rattle.printer_profile.specs.Values.{curve_of_parts, curve_text, curve_written, points_of}
@@ -46,10 +46,6 @@ all_below (n ∷ curve) h =
     let both = and_parts (ltb n 257) (has_points curve) h in
     (ltb-true n 257 both.0, all_below curve both.1)
 
-same_length : (curve : List ℕ) → length (map decimal curve) ≡ length curve
-same_length [] = refl
-same_length (n ∷ curve) = ap suc (same_length curve)
-
 of_17 : (parts : List (List ℕ)) → length parts ≡ 17 → curve_of_parts parts ≡ points_of parts
 of_17 parts h = rw h refl
 
@@ -59,7 +55,7 @@ curve_read [] long h = absurd (omega arith)
 curve_read (n ∷ curve) long h =
     let small = all_below (n ∷ curve) h in
     ap curve_of_parts (parts_written 257 n curve (omega arith) small)
-    ∙ of_17 (map decimal (n ∷ curve)) (same_length (n ∷ curve) ∙ long)
+    ∙ of_17 (map decimal (n ∷ curve)) (length-map (n ∷ curve) decimal ∙ long)
     ∙ numbers_read 256 257 (n ∷ curve) refl (omega arith) small
 
 -- ---- printed point by point

@@ -37,10 +37,6 @@ use Rattle.printer_profile.proofs.CurveTexts.{below_257, curve_read}
 printable : ℕ → Bool
 printable b = ltb 31 b && ltb b 128
 
--- the text is printable
-AllPrintable : List ℕ → Type 0
-AllPrintable line = list_all printable line ≡ true
-
 no_newline : (b : ℕ) → printable b ≡ true → eqb b 10 ≡ false
 unfolding printable
 no_newline b h = grind (arith, nat_tests)

@@ -33,6 +33,7 @@ pub fn printed_is_read(p: Profile)
 
 /// Two texts whose first lines are `escp2-profile 1` and `escp2-profile 2` and whose other lines are equal give the
 /// same answer; or the text of version 1 has an unknown key in a line with the key of a curve.
+#[tactic(auto, using(crate::proofs::TwoHeads::versions_agree))]
 pub fn versions_agree()
     ensures { (a b : List ℕ) → VersionsAgree a b }
 {}

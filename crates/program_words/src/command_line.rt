@@ -1,6 +1,7 @@
 //! The words of a command line.
+use crate::texts::{ProgramTexts, text_of};
 use std::{env, io};
-use weave_base::{Memory, Words};
+use weave_base::{Failed, Memory, StdSink, Words, put_all};
 
 /// Why there are no words.
 #[derive(Clone, Copy, Debug, PartialEq, Eq)]
@@ -9,6 +10,15 @@ pub enum NoWords {
     NoText,
     /// Memory ran out.
     Memory,
+}
+
+/// What a command line asks of a program.
+#[derive(Drop)]
+pub enum Asked {
+    /// One of the texts that the program has about itself.
+    Text(&'static str),
+    /// A run with these words.
+    Run(Words),
 }
 
 // The most words of a command line.
@@ -39,4 +49,18 @@ pub fn read_words(rt: &HostRuntime) -> Result<Words, NoWords> {
         words.push(&word)?;
     }
     Ok(words)
+}
+
+/// What the command line asks for: a text where `text_of` gives one, else a run.
+pub fn read_command_line(rt: &HostRuntime, texts: ProgramTexts) -> Result<Asked, NoWords> {
+    let words = read_words(rt)?;
+    match text_of(&words, texts) {
+        Some(text) => Ok(Asked::Text(text)),
+        None => Ok(Asked::Run(words)),
+    }
+}
+
+/// Writes a text to standard output.
+pub fn show_text(rt: &HostRuntime, text: &str) -> Result<(), Failed> {
+    put_all(&mut StdSink::make(rt.stdout()), text.as_bytes())
 }

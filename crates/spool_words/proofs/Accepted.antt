@@ -11,20 +11,21 @@ use Rattle.std.proofs.lemmas.List.Sums.{length-filter, sum_by_push}
 use Rattle.std.proofs.lemmas.Slice.Eq.{bytes_eq-Decides}
 use Rattle.key_values.specs.Pairs.{is_key_value, key_of, value_of}
 use Rattle.key_values.specs.Lists.{is_comma}
-use Rattle.job_words.specs.Meaning.{given, gives}
+use Rattle.job_words.specs.Meaning.{given, gives, refused}
 use Rattle.job_words.specs.Table.{profile_key, workers_key}
 use Rattle.job_words.proofs.Bounds.{given_between}
+use Rattle.job_words.proofs.Steps.{first_good as first_accepted}
 use Rattle.spool_words.specs.declared.faults.SpoolCause.{SpoolCause}
 use Rattle.spool_words.specs.declared.faults.SpoolCause.TheVariants.{BadValue, NoSend, NotKeyValue}
 use Rattle.spool_words.specs.declared.faults.SpoolFault.{SpoolFault}
 use Rattle.spool_words.specs.declared.reading.SpoolRequest.{SpoolRequest}
 use Rattle.spool_words.specs.Keys.{SpoolKey, key_named, profile_row, send_key, send_row}
-use Rattle.spool_words.specs.Meaning.{fault_at, faults_at, key_fault, names_of, profile_named, refused, request_of, request_unless, sender_count}
+use Rattle.spool_words.specs.Meaning.{fault_at, faults_at, faults_on, key_fault, names_of, profile_named, request_of, request_unless, sender_count}
 use Rattle.spool_words.specs.Meaning.{spool_meaning, value_fault, word_fault}
 use Rattle.spool_words.specs.Names.{are_names, is_name, names_in}
 use Rattle.spool_words.specs.Requests.{AreNames, IsName, IsWithinBounds}
 
--- ---- a word that gives a sender
+-- ---- an accepted word
 
 good_value : (key : SpoolKey) (before : ℕ) (taken : Bool) → value_fault key before taken ≡ None → (before < key.most) × (taken ≡ true)
 good_value key before taken h = by_tests (ltb before key.most) taken refl h where
@@ -34,31 +35,29 @@ good_value key before taken h = by_tests (ltb before key.most) taken refl h wher
   by_tests true false same h = absurd cc
   by_tests false taken same h = absurd cc
 
-good_sender : (earlier : List (List ℕ)) (word : List ℕ) → word_fault earlier word ≡ None → gives send_key word ≡ true
-    → (sender_count earlier < 8) × (are_names (names_in (value_of word)) ≡ true)
+-- a word with a key of the table: as many as may be have the key, and the key takes its value
+good_key : (key : SpoolKey) (earlier : List (List ℕ)) (word : List ℕ) → key_named key.row.name ≡ Some key
+    → word_fault earlier word ≡ None → gives key.row word ≡ true
+    → (count_by (gives key.row) earlier < key.most) × (key.row.takes (value_of word) ≡ true)
 unfolding word_fault
-good_sender earlier word h sends = by_test (is_key_value word) h where
+good_key key earlier word named h here = by_test (is_key_value word) h where
   by_test : (test : Bool) → (if test then key_fault earlier word (key_named (key_of word)) else Some NotKeyValue) ≡ None
-      → (sender_count earlier < 8) × (are_names (names_in (value_of word)) ≡ true)
+      → (count_by (gives key.row) earlier < key.most) × (key.row.takes (value_of word) ≡ true)
   by_test true h =
-      let is : key_of word ≡ codes "send" = (bytes_eq-Decides (key_of word) (codes "send")).0 sends in
-      let found : key_named (key_of word) ≡ Some send_row = ap key_named is in
-      good_value send_row (sender_count earlier) (are_names (names_in (value_of word)))
-      (ap (key_fault earlier word) (sym found) ∙ h)
+      let is : key_of word ≡ key.row.name = (bytes_eq-Decides (key_of word) key.row.name).0 here in
+      good_value key _ _ (ap (key_fault earlier word) (sym (ap key_named is ∙ named)) ∙ h)
   by_test false h = absurd cc
 
--- the first word, and those after it
-pub record NoneRefused (earlier : List (List ℕ)) (word : List ℕ) (words : List (List ℕ)) : Type 0 where
-  pub good : word_fault earlier word ≡ None
-  pub later : refused words (earlier ++ word ∷ []) ≡ []
+no_cause : (number : ℕ) (o : Option SpoolCause) → faults_at number o ≡ [] → o ≡ None
+no_cause number None h = refl
+no_cause number (Some cause) h = absurd cc
 
-first_good : (words earlier : List (List ℕ)) (word : List ℕ) → refused (word ∷ words) earlier ≡ [] → NoneRefused earlier word words
-unfolding refused
-first_good words earlier word h = by_fault (word_fault earlier word) refl h where
-  by_fault : (o : Option SpoolCause) → word_fault earlier word ≡ o
-      → faults_at (length earlier + 1) o ++ refused words (earlier ++ word ∷ []) ≡ [] → NoneRefused earlier word words
-  by_fault None same h = record { good = same; later = h }
-  by_fault (Some cause) same h = absurd cc
+-- the first word of words that are accepted, and those behind it
+first_good : (words earlier : List (List ℕ)) (word : List ℕ) → refused faults_on (word ∷ words) earlier ≡ []
+    → (word_fault earlier word ≡ None) × (refused faults_on words (earlier ++ word ∷ []) ≡ [])
+first_good words earlier word none =
+    let first = first_accepted faults_on words earlier word none in
+    (no_cause (length earlier + 1) (word_fault earlier word) first.0, first.1)
 
 -- ---- there are at most eight
 
@@ -71,17 +70,17 @@ one_more earlier word few good =
     omega (arith, push, bound)
   where
     by_test : (test : Bool) → gives send_key word ≡ test → sender_count earlier + cond test 1 0 ≤ 8
-    by_test true same = let fewer = (good_sender earlier word good same).0 in omega (arith, fewer)
+    by_test true same = let fewer = (good_key send_row earlier word refl good same).0 in omega (arith, fewer)
     by_test false same = omega arith
 
-few_on : (words earlier : List (List ℕ)) → refused words earlier ≡ [] → sender_count earlier ≤ 8 → sender_count (earlier ++ words) ≤ 8
+few_on : (words earlier : List (List ℕ)) → refused faults_on words earlier ≡ [] → sender_count earlier ≤ 8 → sender_count (earlier ++ words) ≤ 8
 few_on [] earlier none few = omega (arith, ap sender_count (append-nil earlier))
 few_on (word ∷ words) earlier none few =
     let first = first_good words earlier word none in
-    let all = few_on words (earlier ++ word ∷ []) first.later (one_more earlier word few first.good) in
+    let all = few_on words (earlier ++ word ∷ []) first.1 (one_more earlier word few first.0) in
     omega (arith, all, ap sender_count (append_assoc earlier (word ∷ []) words))
 
-pub few_senders : (words : List (List ℕ)) → refused words [] ≡ [] → sender_count words ≤ 8
+pub few_senders : (words : List (List ℕ)) → refused faults_on words [] ≡ [] → sender_count words ≤ 8
 few_senders words none = few_on words [] none (omega arith)
 
 -- ---- their names
@@ -110,46 +109,32 @@ names_are text h =
       each = each_name (names_in text) parts.1;
     }
 
-names_on : (words earlier : List (List ℕ)) → refused words earlier ≡ [] → AllByRecursion AreNames (names_of words)
+names_on : (words earlier : List (List ℕ)) → refused faults_on words earlier ≡ [] → AllByRecursion AreNames (names_of words)
 names_on [] earlier none = tt
 names_on (word ∷ words) earlier none =
     let first = first_good words earlier word none in
-    by_test (gives send_key word) refl first.good (names_on words (earlier ++ word ∷ []) first.later) where
+    by_test (gives send_key word) refl first.0 (names_on words (earlier ++ word ∷ []) first.1) where
       by_test : (test : Bool) → gives send_key word ≡ test → word_fault earlier word ≡ None → AllByRecursion AreNames (names_of words)
           → AllByRecursion AreNames (map (λ other. names_in (value_of other)) (cond test (word ∷ filter (gives send_key) words) (filter (gives send_key) words)))
-      by_test true same good later = (names_are (value_of word) (good_sender earlier word good same).1, later)
+      by_test true same good later = (names_are (value_of word) (good_key send_row earlier word refl good same).1, later)
       by_test false same good later = later
 
 -- ---- the profile's name
 
-good_profile : (earlier : List (List ℕ)) (word : List ℕ) → word_fault earlier word ≡ None → gives profile_key word ≡ true
-    → IsName (value_of word)
-unfolding word_fault
-good_profile earlier word h named = by_test (is_key_value word) h where
-  by_test : (test : Bool) → (if test then key_fault earlier word (key_named (key_of word)) else Some NotKeyValue) ≡ None
-      → IsName (value_of word)
-  by_test true h =
-      let is : key_of word ≡ codes "profile" = (bytes_eq-Decides (key_of word) (codes "profile")).0 named in
-      let found : key_named (key_of word) ≡ Some profile_row = ap key_named is in
-      let taken = good_value profile_row (count_by (gives profile_key) earlier) (is_name (value_of word))
-      (ap (key_fault earlier word) (sym found) ∙ h) in
-      name_is (value_of word) taken.1
-  by_test false h = absurd cc
-
-profile_on : (words earlier : List (List ℕ)) → refused words earlier ≡ [] → IsName (profile_named words)
+profile_on : (words earlier : List (List ℕ)) → refused faults_on words earlier ≡ [] → IsName (profile_named words)
 profile_on [] earlier none = record { some = omega arith; most = omega arith }
 profile_on (word ∷ words) earlier none =
     let first = first_good words earlier word none in
-    by_test (gives profile_key word) refl first.good (profile_on words (earlier ++ word ∷ []) first.later) where
+    by_test (gives profile_key word) refl first.0 (profile_on words (earlier ++ word ∷ []) first.1) where
       by_test : (test : Bool) → gives profile_key word ≡ test → word_fault earlier word ≡ None → IsName (profile_named words)
           → IsName (unwrap_or (option_map value_of (cond test (Some word) (find (gives profile_key) words))) (codes "p360cmyk"))
-      by_test true same good later = good_profile earlier word good same
+      by_test true same good later = name_is (value_of word) (good_key profile_row earlier word refl good same).1
       by_test false same good later = later
 
 -- ---- the request
 
 pub record IsAccepted (words : List (List ℕ)) (request : SpoolRequest) : Type 0 where
-  pub none_refused : refused words [] ≡ []
+  pub none_refused : refused faults_on words [] ≡ []
   pub some_sender : 1 ≤ sender_count words
   pub request_is : request_of words ≡ request
 
@@ -158,14 +143,14 @@ some_if n h = grind (arith, nat_tests)
 
 pub words_accepted : (words : List (List ℕ)) (request : SpoolRequest) → spool_meaning words ≡ Ok request → IsAccepted words request
 unfolding spool_meaning
-words_accepted words request means = by_faults (refused words []) refl means where
-  by_count : (test : Bool) → refused words [] ≡ [] → eqb (sender_count words) 0 ≡ test
+words_accepted words request means = by_faults (refused faults_on words []) refl means where
+  by_count : (test : Bool) → refused faults_on words [] ≡ [] → eqb (sender_count words) 0 ≡ test
       → (if test then Err (fault_at (length words + 1) NoSend) else Ok (request_of words)) ≡ Ok request → IsAccepted words request
   by_count true none same means = absurd cc
   by_count false none same means =
       record { none_refused = none; some_sender = some_if (sender_count words) same; request_is = cc }
 
-  by_faults : (faults : List SpoolFault) → refused words [] ≡ faults → request_unless faults words ≡ Ok request → IsAccepted words request
+  by_faults : (faults : List SpoolFault) → refused faults_on words [] ≡ faults → request_unless faults words ≡ Ok request → IsAccepted words request
   by_faults [] none means = by_count (eqb (sender_count words) 0) none refl means
   by_faults (fault ∷ faults) some means = absurd cc
 

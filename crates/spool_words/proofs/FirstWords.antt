@@ -1,31 +1,10 @@
--- The first of some words that passes a test, and how many of them pass it.
+-- How many of some words pass a test.
 use Rattle.std.proofs.Common.{◌≡◌, ℕ, zero, suc, ◌≤◌, ◌+◌, Bool, true, false, cond, List, [], ◌∷◌, length, take}
-use Rattle.std.proofs.Common.{Some, None, slice_get, refl, ap, sym, subst, ◌∙◌, arith}
-use Rattle.std.specs.List.{count_by, filter, find, list_any, position_from}
-use Rattle.std.proofs.lemmas.List.{length-take-le, take_all}
+use Rattle.std.proofs.Common.{Some, slice_get, refl, ap, subst, ◌∙◌, arith}
+use Rattle.std.specs.List.{count_by, filter}
+use Rattle.std.proofs.lemmas.List.{length-take-le}
 use Rattle.std.proofs.lemmas.List.Sums.{count_by-le-length, count_by_more_no, count_by_more_yes, sum_by-cons}
 use Rattle.std.proofs.lemmas.Option.{get_or_from_slice_get, slice_get_within}
-use Rattle.job_words.proofs.FirstWords.{find_none, position_at, position_none}
-
--- ---- the first
-
-none_at_all : {X : Type 0} (p : X → Bool) (xs : List X) (k : ℕ) → length xs ≤ k → list_any p (take k xs) ≡ false
-    → list_any p xs ≡ false
-none_at_all p xs k all none = ap (list_any p) (sym (take_all k xs all)) ∙ none
-
-pub no_first : {X : Type 0} (p : X → Bool) (xs : List X) (k : ℕ) → length xs ≤ k → list_any p (take k xs) ≡ false
-    → find p xs ≡ None
-no_first p xs k all none = find_none p xs (none_at_all p xs k all none)
-
-pub no_place : {X : Type 0} (p : X → Bool) (xs : List X) (k : ℕ) → length xs ≤ k → list_any p (take k xs) ≡ false
-    → position_from p 1 xs ≡ None
-no_place p xs k all none = position_none p 1 xs (none_at_all p xs k all none)
-
-pub place_at : {X : Type 0} (p : X → Bool) (xs : List X) (k : ℕ) (x : X) → slice_get xs k ≡ Some x
-    → list_any p (take k xs) ≡ false → p x ≡ true → position_from p 1 xs ≡ Some (k + 1)
-place_at p xs k x here none passes = position_at p 1 xs k x here none passes ∙ ap Some (omega arith)
-
--- ---- how many
 
 pub one_passes : {X : Type 0} (p : X → Bool) (xs : List X) (k : ℕ) (x : X) → slice_get xs k ≡ Some x → p x ≡ true
     → count_by p (take (k + 1) xs) ≡ count_by p (take k xs) + 1
@@ -37,8 +16,8 @@ pub one_fails : {X : Type 0} (p : X → Bool) (xs : List X) (k : ℕ) (x : X) �
 one_fails p xs k x here fails =
     count_by_more_no p xs k x (slice_get_within xs k x here) (ap p (get_or_from_slice_get xs k x x here) ∙ fails)
 
-pub counted : {X : Type 0} (p : X → Bool) (xs : List X) (k : ℕ) → k ≤ length xs → count_by p (take k xs) ≤ k
-counted p xs k within = omega (arith, count_by-le-length p (take k xs), length-take-le k xs within)
+pub few_pass : {X : Type 0} (p : X → Bool) (xs : List X) (k : ℕ) → k ≤ length xs → count_by p (take k xs) ≤ k
+few_pass p xs k within = omega (arith, count_by-le-length p (take k xs), length-take-le k xs within)
 
 -- an element that passes, among those that do
 pub kept_at : {X : Type 0} (p : X → Bool) (xs : List X) (k : ℕ) (x : X) → slice_get xs k ≡ Some x → p x ≡ true

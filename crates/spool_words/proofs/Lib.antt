@@ -4,4 +4,3 @@ pub mod FirstWords
 pub mod Meanings
 pub mod Profiles
 pub mod SenderNames
-pub mod Steps

@@ -1,10 +1,10 @@
 -- What the words of the spool ask for, and which of them is refused.
-use Rattle.std.specs.Prelude.{ℕ, Bool, nat_eq, nat_lt, ◌+◌, ◌-◌, if◌then◌else◌, List, [], ◌∷◌, ◌++◌, codes, length, map}
+use Rattle.std.specs.Prelude.{ℕ, Bool, nat_eq, nat_lt, ◌+◌, ◌-◌, if◌then◌else◌, List, [], ◌∷◌, codes, length, map}
 use Rattle.std.specs.Prelude.{count_by, filter, get_or, Option, Some, None, Result, Ok, Err, unwrap_or}
 use Rattle.std.specs.List.{position_from}
 use Rattle.diffusion_kernel.specs.declared.tables.Kernel.TheVariants.{Floyd}
 use Rattle.key_values.specs.Pairs.{is_key_value, key_of, value_of}
-use Rattle.job_words.specs.Meaning.{given, given_as, gives}
+use Rattle.job_words.specs.Meaning.{given, given_as, gives, refused}
 use Rattle.job_words.specs.Table.{kernel_key, profile_key, workers_key}
 use Rattle.job_words.specs.Values.{kernel_named, worker_count}
 use Rattle.spool_words.specs.Keys.{SpoolKey, key_named, send_key}
@@ -39,11 +39,9 @@ abbrev pub faults_at : ℕ → Option SpoolCause → List SpoolFault
 faults_at number None = []
 faults_at number (Some cause) = fault_at number cause ∷ []
 
--- All refused words, and why. Words are counted from 1; `earlier` are the words before `words`.
-unfoldable pub refused : List (List ℕ) → List (List ℕ) → List SpoolFault
-refused [] earlier = []
-refused (word ∷ words) earlier =
-    faults_at (length earlier + 1) (word_fault earlier word) ++ refused words (earlier ++ word ∷ [])
+-- The faults of a word. Words are counted from 1.
+abbrev pub faults_on : List (List ℕ) → List ℕ → List SpoolFault
+faults_on earlier word = faults_at (length earlier + 1) (word_fault earlier word)
 
 -- how many senders words have
 abbrev pub sender_count : List (List ℕ) → ℕ
@@ -70,7 +68,7 @@ request_unless [] words =
 
 -- What the words of the spool mean: its request, or the first refused word and why.
 unfoldable pub spool_meaning : List (List ℕ) → Result SpoolRequest SpoolFault
-spool_meaning words = request_unless (refused words []) words
+spool_meaning words = request_unless (refused faults_on words []) words
 
 -- The profile's name: the built-in one where no word gives it.
 abbrev pub profile_named : List (List ℕ) → List ℕ

@@ -1,5 +1,5 @@
 //! Words of the spool worked by hand: each function does nothing, and the checker computes its contract.
-#![tactic(auto, unfolding(crate::specs::Meaning::spool_meaning, crate::specs::Meaning::refused, crate::specs::Meaning::word_fault, key_values::specs::Numbers::number_within))]
+#![tactic(auto, unfolding(crate::specs::Meaning::spool_meaning, job_words::specs::Meaning::refused, crate::specs::Meaning::word_fault, key_values::specs::Numbers::number_within))]
 
 ghost use Rattle.diffusion_kernel.specs.declared.tables.Kernel.TheVariants.{Floyd, Jarvis};
 ghost use Rattle.spool_words.specs.Meaning.{fault_at, names_of, profile_named, spool_meaning};

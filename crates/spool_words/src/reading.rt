@@ -1,5 +1,6 @@
 //! Reading the words of the spool.
-ghost use Rattle.spool_words.specs.Meaning.{profile_named, refused, request_of, sender_count, spool_meaning};
+ghost use Rattle.job_words.specs.Meaning.{refused};
+ghost use Rattle.spool_words.specs.Meaning.{faults_on, profile_named, request_of, sender_count, spool_meaning};
 ghost use Rattle.spool_words.specs.Meaning.{word_fault};
 ghost use Rattle.std.specs.Prelude.{IfErr, Ok, OnOk, Some, [], length, slice_get, take, ◌≡◌, ◌≤◌};
 
@@ -48,8 +49,8 @@ fn refusal(words: &Words, place: u32, word: &str) -> Option<SpoolCause>
 
 // Refuses the first bad word.
 fn check_words(words: &Words) -> Result<(), SpoolFault>
-    ensures accepted { OnOk result (refused words.now [] ≡ []) }
-    ensures fault { IfErr result (λ fault. slice_get (refused words.now []) 0 ≡ Some fault) }
+    ensures accepted { OnOk result (refused faults_on words.now [] ≡ []) }
+    ensures fault { IfErr result (λ fault. slice_get (refused faults_on words.now []) 0 ≡ Some fault) }
 {
     for i in 0..words.len() {
         if let Some(cause) = refusal(words, i, words.get(i)) {

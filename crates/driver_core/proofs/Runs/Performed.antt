@@ -2,7 +2,6 @@
 use Rattle.std.proofs.Common.{◌≡◌, ℕ, List, Option, IsOk, Ok, sym, ◌∙◌, arith}
 use Rattle.driver_answer.specs.declared.answer.Answer.{Answer}
 use Rattle.ink_meter.specs.Accounts.{Account}
-use Rattle.job_words.proofs.Most.{most_of_job}
 use Rattle.weave_base.specs.Shelf.{NamedText}
 use Rattle.driver_core.specs.declared.preparing.Prepared.{Prepared}
 use Rattle.driver_core.specs.declared.preparing.Prepared.TheVariants as prepared
@@ -16,7 +15,7 @@ use Rattle.job_words.specs.Meaning.{job_meaning}
 use Rattle.page_definitions.specs.Ways.{CanGo}
 use Rattle.printer_definitions.specs.Printer.{Printer}
 use Rattle.printer_profile.specs.Validity.{check}
-use Rattle.job_words.proofs.Jobs.{within_bounds}
+use Rattle.job_words.proofs.Jobs.{most_of_job, within_bounds}
 use Rattle.driver_core.proofs.Runs.Worked.{listed, played, printed, shown, tried}
 
 can_be_printed : (words : List (List ℕ)) (job : Job) (p : Printer) → job_meaning words ≡ Ok job → IsOk (check p)

@@ -1,7 +1,8 @@
-use Rattle.std.proofs.Common.{◌≡◌, ◌-◌, false, drop, take}
+use Rattle.std.proofs.Common.{◌≡◌, ◌-◌, drop, take}
 use Rattle.std.specs.List.{list_any}
 use Rattle.job_words.specs.Meaning.{excludes}
 use Rattle.job_words.proofs.earlier.is_excluded_before.Given as goal
 
 abbrev pub invariant-loop-i : goal.invariant-loop-i
-invariant-loop-i l = list_any (excludes l.word) (take (l.i - 1) (drop 1 l.words)) ≡ false
+invariant-loop-i l =
+    list_any (excludes l.word) (take (l.place - 1) (drop 1 l.words)) ≡ list_any (excludes l.word) (take (l.place - l.i) (drop l.i l.words))

@@ -1,8 +1,9 @@
-use Rattle.std.proofs.Common.{◌≡◌, ◌-◌, false, drop, take}
+use Rattle.std.proofs.Common.{◌≡◌, ◌-◌, drop, take}
 use Rattle.std.specs.List.{list_any}
 use Rattle.job_words.specs.Meaning.{gives}
 use Rattle.job_words.specs.Rows.{key_row}
 use Rattle.job_words.proofs.earlier.is_given_before.Given as goal
 
 abbrev pub invariant-loop-i : goal.invariant-loop-i
-invariant-loop-i l = list_any (gives (key_row l.key)) (take (l.i - 1) (drop 1 l.words)) ≡ false
+invariant-loop-i l =
+    list_any (gives (key_row l.key)) (take (l.place - 1) (drop 1 l.words)) ≡ list_any (gives (key_row l.key)) (take (l.place - l.i) (drop l.i l.words))

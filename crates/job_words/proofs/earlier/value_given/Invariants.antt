@@ -1,8 +1,8 @@
-use Rattle.std.proofs.Common.{◌≡◌, ◌-◌, false, drop, take}
-use Rattle.std.specs.List.{list_any}
+use Rattle.std.proofs.Common.{◌≡◌, drop}
+use Rattle.std.specs.List.{find}
 use Rattle.job_words.specs.Meaning.{gives}
 use Rattle.job_words.specs.Rows.{key_row}
 use Rattle.job_words.proofs.earlier.value_given.Given as goal
 
 abbrev pub invariant-loop-i : goal.invariant-loop-i
-invariant-loop-i l = list_any (gives (key_row l.key)) (take (l.i - 1) (drop 1 l.words)) ≡ false
+invariant-loop-i l = find (gives (key_row l.key)) (drop 1 l.words) ≡ find (gives (key_row l.key)) (drop l.i l.words)

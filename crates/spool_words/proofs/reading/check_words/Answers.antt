@@ -1,13 +1,16 @@
-use Rattle.std.proofs.Common.{arith}
-use Rattle.spool_words.proofs.Steps.{all_accepted, first_fault, one_more}
+use Rattle.std.proofs.Common.{refl, arith}
+use Rattle.job_words.proofs.FirstWords.{count_taken}
+use Rattle.job_words.proofs.Steps.{all_accepted, first_refused, one_more}
 use Rattle.spool_words.proofs.reading.check_words.Goals as goal
 
 pub returns-in-Some-clause-fault : goal.returns-in-Some-clause-fault
 returns-in-Some-clause-fault c =
-    first_fault c.args.words.now c.loop-i.i _ c.in-Some.cause c.loop-i.invariant c.get.ensures c.in-Some.ensures
+    first_refused _ _ c.loop-i.i _ _ c.loop-i.invariant c.get.ensures
+    (rw (count_taken c.args.words.now c.loop-i.i _ c.get.ensures, ← c.in-Some.ensures) refl)
 
 pub loop-i-preserved : goal.loop-i-preserved
-loop-i-preserved c = one_more c.args.words.now c.loop-i.i _ c.loop-i.invariant c.get.ensures c.in_default.ensures
+loop-i-preserved c =
+    one_more _ c.args.words.now c.loop-i.i _ _ refl c.loop-i.invariant c.get.ensures (rw (← c.in_default.ensures) refl)
 
 pub returns-clause-accepted : goal.returns-clause-accepted
-returns-clause-accepted c = all_accepted c.args.words.now c.loop-i.i c.loop-i.invariant (omega arith)
+returns-clause-accepted c = all_accepted _ c.args.words.now c.loop-i.i c.loop-i.invariant (omega arith)

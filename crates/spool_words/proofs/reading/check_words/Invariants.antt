@@ -1,6 +1,7 @@
-use Rattle.spool_words.proofs.Steps.{AreAccepted}
+use Rattle.job_words.proofs.Steps.{AreAccepted}
+use Rattle.spool_words.specs.Meaning.{faults_on}
 use Rattle.spool_words.proofs.reading.check_words.Given as goal
 
 -- the words before number i + 1 are accepted
 abbrev pub invariant-loop-i : goal.invariant-loop-i
-invariant-loop-i l = AreAccepted l.words l.i
+invariant-loop-i l = AreAccepted faults_on l.words l.i

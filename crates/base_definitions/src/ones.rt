@@ -1,0 +1,17 @@
+//! The bits of bytes that are 1.
+ghost use Rattle.std.specs.List.{sum_by};
+ghost use Rattle.std.specs.Prelude.{count_ones, length, ◌*◌, ◌≡◌, ◌≤◌};
+
+/// How many bits of some bytes are 1.
+#[inline]
+pub fn ones_in(bytes: &[u8]) -> u32
+    requires { length bytes.now ≤ 1024 }
+    ensures is { result ≡ sum_by count_ones bytes.now }
+    ensures most { result ≤ 8 * length bytes.now }
+{
+    let mut ones = 0;
+    for byte in bytes {
+        ones += byte.count_ones();
+    }
+    ones
+}
