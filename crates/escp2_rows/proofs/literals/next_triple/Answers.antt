@@ -3,8 +3,7 @@ use Rattle.std.proofs.lemmas.Bool.{cases_lt}
 use Rattle.std.proofs.lemmas.List.{take_rest}
 use Rattle.escp2_definitions.specs.Least.{equal_at}
 use Rattle.escp2_rows.specs.Passing.{are_three}
-use Rattle.escp2_rows.proofs.Sixteens.{three_apart}
-use Rattle.escp2_rows.proofs.Triples.{three_many, three_on}
+use Rattle.escp2_rows.proofs.Triples.{three_apart, three_many, three_on}
 use Rattle.escp2_rows.proofs.literals.next_triple.Goals as goal
 
 -- the places before, or those from there on
