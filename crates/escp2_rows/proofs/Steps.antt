@@ -263,13 +263,6 @@ literal-read n left m width more most at bytes rest whole = by_length (nat_lt (l
         ∙ sym (front-append bytes (take more rest)
         (rest_at most (left - length bytes - more) m width (at + length bytes + more) (drop more rest)))
 
--- bytes as they are, up to the last
-pub literal_moves : (n left m width more : ℕ) (bytes : List ℕ) → length bytes + more ≡ n
-    → Moves (Literal n) left m width bytes bytes (Literal more) (left - length bytes) m width
-literal_moves n left m width more bytes whole = record {
-  on = λ most enough. (most, λ still. omega (arith, enough refl), λ at rest. literal-read n left m width more most at bytes rest whole);
-}
-
 -- where none of them is left, a packet is next
 literal-none : (most left m width at : ℕ) (rest : List ℕ)
     → read_on (Literal 0) most left m width at rest ≡ rest_at most left m width at rest
@@ -338,9 +331,14 @@ next_left left m width count m' all more = omega (arith, ap (λ k. k * width) mo
 -- bytes as they are, before the last
 pub literal_part : {n left m width more left' : ℕ} {bytes : List ℕ} → length bytes + more ≡ n → left' ≡ left - length bytes
     → Moves (Literal n) left m width bytes bytes (Literal more) left' m width
-literal_part {n} {left} {m} {width} {more} {bytes} whole less =
-    let P : ℕ → Type 0 = λ k. Moves (Literal n) left m width bytes bytes (Literal more) k m width in
-    subst P (sym less) (literal_moves n left m width more bytes whole)
+literal_part {n} {left} {m} {width} {more} {left'} {bytes} whole less = record {
+  on = λ most enough. (
+    most,
+    λ still. omega (arith, less, enough refl),
+    λ at rest. literal-read n left m width more most at bytes rest whole
+        ∙ ap (λ k. with_front bytes (read_on (Literal more) most k m width (at + length bytes) rest)) (sym less),
+  );
+}
 
 -- ---- the first place
 
