@@ -1,6 +1,6 @@
 -- Where three equal bytes begin, and where pairs do.
-use Rattle.std.proofs.Common.{◌≡◌, ℕ, ◌+◌, ◌-◌, ◌<◌, ◌≤◌, ◌==◌, ◌&&◌, ◌⊎◌, ◌≢◌, inl, inr, not, true, false, List, [], ◌∷◌, length, drop, get_or, sym, ◌∙◌, ap, arith, length-drop, eq-eqb}
-use Rattle.std.proofs.lemmas.Bool.{cases_eq, cases_lt, eqb-true, ne_eqb}
+use Rattle.std.proofs.Common.{◌≡◌, ℕ, ◌+◌, ◌-◌, ◌<◌, ◌≤◌, ◌==◌, ◌&&◌, ◌⊎◌, ◌≢◌, inl, inr, true, false, List, [], ◌∷◌, length, drop, get_or, sym, ◌∙◌, ap, arith, length-drop, eq-eqb}
+use Rattle.std.proofs.lemmas.Bool.{cases_eq, cases_lt, ne_eqb}
 use Rattle.std.proofs.lemmas.List.{get_or-drop}
 use Rattle.escp2_definitions.specs.Least.{equal_at}
 use Rattle.escp2_laws.proofs.Fewest.{equal_within}

@@ -12,8 +12,8 @@ use Rattle.escp2_definitions.specs.RowCode.{RowPacket, packet_code, packet_row}
 use Rattle.escp2_definitions.specs.RowCode.RowPacket.{Bytes, Repeat}
 use Rattle.escp2_definitions.specs.Least.{cost_from, costs, equal_at, least_packet, least_row, literals, packets_at, packets_from, runs}
 use Rattle.escp2_rows.specs.Literals.{IsLongest, LongestSoFar, WritesFirst}
-use Rattle.escp2_laws.proofs.Fewest.{ByLiteral, ByRun, cost_is, costs_drop, equal_within, equal_is, fewest, first_step, length_costs, literal_costs}
-use Rattle.escp2_laws.proofs.Fewest.{run_costs, same, same_cons, same_within}
+use Rattle.escp2_laws.proofs.Fewest.{ByLiteral, cost_is, costs_drop, equal_within, equal_is, fewest, length_costs, literal_costs}
+use Rattle.escp2_laws.proofs.Fewest.{same, same_cons, same_within}
 use Rattle.escp2_laws.proofs.Least.{IsFirst, first_of_row}
 use Rattle.escp2_rows.proofs.Ends.{run_longest}
 use Rattle.escp2_rows.proofs.Passing.{literal_is_least, run_is_least}

@@ -1,5 +1,5 @@
 -- How far a literal at the front of a row goes, told by the bytes that follow.
-use Rattle.std.specs.Prelude.{◌≡◌, ◌==◌, ◌&&◌, ℕ, ◌+◌, ◌<◌, ◌≤◌, if◌then◌else◌, Bool, List, length, drop, slice_index}
+use Rattle.std.specs.Prelude.{◌≡◌, ◌==◌, ◌&&◌, ℕ, ◌+◌, ◌≤◌, if◌then◌else◌, Bool, List, length, drop, slice_index}
 use Rattle.std.specs.Int.{trailing_zeros, w64}
 use Rattle.std.specs.List.{take_while}
 use Rattle.escp2_definitions.specs.Least.{costs}

@@ -1,4 +1,4 @@
-use Rattle.std.proofs.Common.{◌≡◌, ℕ, ◌+◌, ◌-◌, ◌*◌, ◌<◌, ◌≤◌, List, drop, get_or, length, arith, length-drop}
+use Rattle.std.proofs.Common.{◌≡◌, ℕ, ◌+◌, ◌-◌, ◌<◌, ◌≤◌, List, drop, get_or, length, arith, length-drop}
 use Rattle.escp2_definitions.specs.Least.{equal_at}
 use Rattle.escp2_rows.specs.declared.costs.Filled.{Filled}
 use Rattle.escp2_rows.specs.Ends.{IsEnd, IsFilled}

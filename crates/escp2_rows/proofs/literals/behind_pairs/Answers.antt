@@ -1,4 +1,4 @@
-use Rattle.std.proofs.Common.{◌≡◌, drop, arith, ap, sym, ◌∙◌}
+use Rattle.std.proofs.Common.{◌≡◌, drop, arith, ap}
 use Rattle.std.proofs.lemmas.List.{take_rest}
 use Rattle.escp2_definitions.specs.Least.{equal_at}
 use Rattle.escp2_laws.proofs.Fewest.{equal_is}

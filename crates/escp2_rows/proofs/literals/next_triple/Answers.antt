@@ -1,6 +1,5 @@
-use Rattle.std.proofs.Common.{◌≤◌, ◌<◌, ℕ, ◌+◌, drop, ap, arith, sym, ◌∙◌}
+use Rattle.std.proofs.Common.{◌+◌, ap, arith, sym, ◌∙◌}
 use Rattle.std.proofs.lemmas.List.{take_rest}
-use Rattle.escp2_definitions.specs.Least.{equal_at}
 use Rattle.escp2_rows.specs.Passing.{are_three}
 use Rattle.escp2_rows.proofs.Triples.{few_more, places_few, three_many, three_on}
 use Rattle.escp2_rows.proofs.literals.next_triple.Goals as goal
