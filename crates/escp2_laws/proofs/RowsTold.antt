@@ -66,7 +66,7 @@ plain-told n at bytes = by_test (nat_lt (length bytes) n) refl
 -- ---- a packet
 
 -- a packet is decided by its control byte and what that controls
-packet-told : (left at : ℕ) (bytes : List ℕ) → RowsTold (packet_at left at) at bytes (packet_at left at bytes)
+pub packet-told : (left at : ℕ) (bytes : List ℕ) → RowsTold (packet_at left at) at bytes (packet_at left at bytes)
 packet-told left at [] = tt
 packet-told left at (n ∷ bytes) = by_control (control_of n) refl
   where
@@ -141,7 +141,7 @@ passed : (at next : ℕ) (code rest bytes : List ℕ) → bytes ≡ code ++ rest
 passed at next code rest bytes is there = ap (drop (next - at)) is ∙ drop_at code rest (next - at) (omega (arith, there))
 
 -- the rest of a row, packet by packet
-row-told : (most left at : ℕ) (bytes : List ℕ) → RowsTold (row_at most left at) at bytes (row_at most left at bytes)
+pub row-told : (most left at : ℕ) (bytes : List ℕ) → RowsTold (row_at most left at) at bytes (row_at most left at bytes)
 unfolding row_at
 row-told most zero at bytes = record { front = []; rest = bytes; is = refl; there = omega arith; told = λ more. refl }
 row-told zero (suc left) at bytes = tt

@@ -1,41 +1,12 @@
 -- The costs from right to left: where a literal ends best.
-use Rattle.std.proofs.Common.{◌≡◌, ℕ, zero, suc, ◌+◌, ◌-◌, ◌*◌, ◌%◌, ◌<◌, ◌≤◌, ◌⊎◌, ◌≢◌, inl, inr, List, [], ◌∷◌, length, drop, min, get_or, set, refl, sym, ◌∙◌, ap, subst, arith, length-drop}
+use Rattle.std.proofs.Common.{◌≡◌, ℕ, ◌+◌, ◌-◌, ◌*◌, ◌<◌, ◌≤◌, ◌⊎◌, ◌≢◌, inl, inr, List, [], ◌∷◌, length, drop, min, get_or, set, refl, sym, ◌∙◌, ap, arith, length-drop}
 use Rattle.std.proofs.lemmas.Bool.{cases_lt}
-use Rattle.std.proofs.lemmas.List.{drop-drop, drop-set, drop_more, drop_all, length-set}
+use Rattle.std.proofs.lemmas.List.{drop-drop, drop-set, drop_more, drop_all, get_or-drop, length-set}
 use Rattle.escp2_definitions.specs.Least.{costs, equal_at}
 use Rattle.escp2_rows.specs.declared.costs.Filled.{Filled}
-use Rattle.escp2_rows.specs.Ends.{IsEnd, IsFilled, upto}
+use Rattle.escp2_rows.specs.Ends.{IsEnd, IsFilled}
+use Rattle.escp2_rows.specs.Passing.{upto}
 use Rattle.escp2_laws.proofs.Fewest.{ByLiteral, ByRun, costs_drop, equal_is, equal_within, falls_by, fewest, fewest_most, first_step, literal_costs, run_costs, same, same_first, same_more}
-
--- where the best end is too far away, all places are as good
-pub end_near : (row : List ℕ) (end : ℕ) → IsEnd 128 row end → end ≤ 127 → IsEnd 127 row end
-end_near row end is near = record {
-  few = near;
-  within = is.within;
-  best = λ j few within. is.best j (omega arith) within;
-  nearest = is.nearest;
-}
-
-pub end_far : (row : List ℕ) (end : ℕ) → IsEnd 128 row end → 127 < end → IsEnd 127 row 0
-end_far row end is far =
-    let there : end ≡ 128 = omega (arith, is.few) in
-    let most : fewest row ≤ 1 + end + fewest (drop end row) = literal_costs row end (omega arith) is.few is.within in
-    record {
-      few = omega arith;
-      within = omega arith;
-      best = λ j few within. omega (arith, most, is.nearest j (omega arith));
-      nearest = λ j less. absurd (omega arith);
-    }
-
-pub end_next : (row : List ℕ) (end : ℕ) → IsEnd 128 row end → IsEnd 127 row (end % 128)
-end_next row end is = by_far (cases_lt end 128)
-  where
-    P : ℕ → Type 0
-    P k = IsEnd 127 row k
-
-    by_far : (end < 128) ⊎ (128 ≤ end) → IsEnd 127 row (end % 128)
-    by_far (inl near) = let same : end ≡ end % 128 = omega arith in subst P same (end_near row end is (omega arith))
-    by_far (inr far) = let e : end ≡ 128 = omega (arith, is.few) in let same : 0 ≡ end % 128 = omega arith in subst P same (end_far row end is far)
 
 -- no run costs less than the longest one
 pub run_longest : (row : List ℕ) (k n : ℕ) → k ≤ n → fewest (drop n row) ≤ fewest (drop k row)
@@ -43,68 +14,124 @@ run_longest row k n few =
     let on : drop (n - k) (drop k row) ≡ drop n row = drop-drop (n - k) k row ∙ ap (λ m. drop m row) (let e : k + (n - k) ≡ n = omega arith in e) in
     omega (arith, falls_by (n - k) (drop k row), ap fewest on)
 
-literal_worse : (b : ℕ) (row : List ℕ) (end n : ℕ) → IsEnd 127 row end → 1 ≤ n → n ≤ 128 → n ≤ length (b ∷ row)
-    → 2 + upto row end ≤ 1 + n + fewest (drop n (b ∷ row))
-literal_worse b row end zero is some few within = absurd (omega arith)
-literal_worse b row end (suc n) is some few within = omega (arith, is.best n (omega arith) (omega arith))
+-- a literal may go on from one place to another
+pub literal_upto : (row : List ℕ) (n k : ℕ) → n ≤ k → k ≤ n + 128 → k ≤ length row → upto row n ≤ 1 + upto row k
+literal_upto row n k le near within = by_place (cases_lt n k)
+  where
+    behind : drop (k - n) (drop n row) ≡ drop k row
+    behind = drop-drop (k - n) n row ∙ ap (λ m. drop m row) (let e : n + (k - n) ≡ k = omega arith in e)
+
+    by_place : (n < k) ⊎ (k ≤ n) → upto row n ≤ 1 + upto row k
+    by_place (inl less) =
+        omega (arith, literal_costs (drop n row) (k - n) (omega arith) (omega arith) (omega (arith, length-drop n row)), ap fewest behind)
+    by_place (inr all) = let e : n ≡ k = omega arith in omega (arith, ap (upto row) e)
+
+-- ---- one place more
+
+-- where the best end is too far away, all places are as good
+pub end_less : (row : List ℕ) (at end near : ℕ) → IsEnd 128 row at end → (end < at + 128 → near ≡ end) → (end ≡ at + 128 → near ≡ at) → IsEnd 127 row at near
+end_less row at end near is kept far = by_place (cases_lt end (at + 128))
+  where
+    by_place : (end < at + 128) ⊎ (at + 128 ≤ end) → IsEnd 127 row at near
+    by_place (inl less) =
+        let same : upto row near ≡ upto row end = ap (upto row) (kept less) in
+        record {
+          on = omega (arith, kept less, is.on);
+          near = omega (arith, kept less, less);
+          within = omega (arith, kept less, is.within);
+          best = λ j on few within. omega (arith, same, is.best j on (omega (arith, few)) within);
+          nearest = λ j on before. omega (arith, same, is.nearest j on (omega (arith, before, kept less)));
+        }
+    by_place (inr le) =
+        let there : near ≡ at = far (omega (arith, le, is.near)) in
+        let most : upto row at ≤ 1 + upto row end = literal_upto row at end is.on is.near is.within in
+        record {
+          on = omega (arith, there);
+          near = omega (arith, there);
+          within = omega (arith, there, is.on, is.within);
+          best = λ j on few within. omega (arith, ap (upto row) there, most, is.nearest j on (omega (arith, few, le)));
+          nearest = λ j on before. absurd (omega (arith, there, on, before));
+        }
+
+first_packet : (row : List ℕ) → 0 < length row → ByLiteral row ⊎ ByRun row
+first_packet [] some = absurd (omega arith)
+first_packet (b ∷ row) some = first_step b row
+
+-- a row costs no less than by its best literal, or by its longest run
+no_less : (row : List ℕ) (p at end : ℕ) → p + 1 ≡ at → at ≤ length row → IsEnd 127 row at end
+    → (1 + upto row end ≤ upto row p) ⊎ ((2 ≤ equal_at (drop p row)) × (2 + fewest (drop (p + equal_at (drop p row)) row) ≤ fewest (drop p row)))
+no_less row p at end next within is = elim (first_packet (drop p row) (omega (arith, length-drop p row))) [
+  | inl lit ↦ inl (omega (
+    arith,
+    lit.is,
+    ap fewest (drop-drop lit.count p row),
+    is.best (p + lit.count) (omega (arith, lit.some)) (omega (arith, lit.few)) (omega (arith, lit.within, length-drop p row)),
+  ))
+  | inr run ↦ inr (
+    omega (arith, run.some, run.few),
+    omega (
+      arith,
+      run.is,
+      ap fewest (drop-drop run.count p row),
+      run_longest row (p + run.count) (p + equal_at (drop p row)) (omega (arith, run.few)),
+    ),
+  )
+]
+
+-- What the place before costs, and where a literal from before it ends best.
+pub record IsFront (row : List ℕ) (p cost end : ℕ) : Type 0 where
+  pub least : cost ≡ fewest (drop p row)
+  pub ends : IsEnd 128 row p end
 
 -- the longest run costs less than the best literal
-pub record Next (row : List ℕ) (cost end : ℕ) : Type 0 where
-  pub least : cost ≡ fewest row
-  pub ends : IsEnd 128 row end
-
-pub run_next : (b : ℕ) (row : List ℕ) (end n cost : ℕ) → IsEnd 127 row end → n ≡ equal_at (b ∷ row) → 2 ≤ n
-    → cost ≡ 2 + fewest (drop n (b ∷ row)) → cost < 2 + upto row end → Next (b ∷ row) cost 0
-run_next b row end n cost is equal some costs_so less =
-    let least : cost ≡ fewest (b ∷ row) = by_step (first_step b row) in
+pub run_front : (row : List ℕ) (p at end n cost : ℕ) → p + 1 ≡ at → at ≤ length row → IsEnd 127 row at end → n ≡ equal_at (drop p row) → 2 ≤ n
+    → cost ≡ 2 + fewest (drop (p + n) row) → cost + p < 1 + upto row end → IsFront row p cost p
+run_front row p at end n cost next within is equal many so less =
+    let run : fewest (drop p row) ≤ 2 + fewest (drop (p + n) row) =
+    omega (arith, run_costs (drop p row) n many (omega (arith, equal)), ap fewest (drop-drop n p row)) in
+    let least : cost ≡ fewest (drop p row) = elim (no_less row p at end next within is) [
+      | inl literal ↦ absurd (omega (arith, run, so, less, literal))
+      | inr longest ↦ omega (arith, run, so, longest.1, ap (λ k. fewest (drop (p + k) row)) equal)
+    ] in
     record {
       least = least;
       ends = record {
-        few = omega arith;
-        within = omega arith;
-        best = λ j few within. best_at least j few within;
-        nearest = λ j less. absurd (omega arith);
+        on = omega arith;
+        near = omega arith;
+        within = omega (arith, next, within);
+        best = λ j on few inside. elim (cases_lt p j) [
+          | inl more ↦ omega (arith, least, less, is.best j (omega (arith, more, next)) (omega (arith, few, next)) inside)
+          | inr here ↦ let e : p ≡ j = omega arith in omega (arith, ap (upto row) e)
+        ];
+        nearest = λ j on before. absurd (omega (arith, on, before));
       };
     }
-  where
-    by_step : ByLiteral (b ∷ row) ⊎ ByRun (b ∷ row) → cost ≡ fewest (b ∷ row)
-    by_step (inl lit) = omega (arith, run_costs (b ∷ row) n some (omega arith), lit.is, literal_worse b row end lit.count is lit.some lit.few lit.within)
-    by_step (inr run) = omega (arith, run_costs (b ∷ row) n some (omega arith), run.is, run_longest (b ∷ row) run.count n (omega (arith, run.few)))
-
-    best_at : cost ≡ fewest (b ∷ row) → (j : ℕ) → j ≤ 128 → j ≤ length (b ∷ row) → upto (b ∷ row) 0 ≤ upto (b ∷ row) j
-    best_at least zero few within = omega arith
-    best_at least (suc j) few within = omega (arith, least, is.best j (omega arith) (omega arith))
 
 -- the best literal costs no more than a run
-pub literal_next : (b : ℕ) (row : List ℕ) (end n cost : ℕ) → IsEnd 127 row end → n ≡ equal_at (b ∷ row)
-    → (2 ≤ n → cost ≤ 2 + fewest (drop n (b ∷ row))) → cost ≡ 2 + upto row end → Next (b ∷ row) cost (suc end)
-literal_next b row end n cost is equal no_less costs_so =
-    let least : cost ≡ fewest (b ∷ row) = by_step (first_step b row) in
+pub literal_front : (row : List ℕ) (p at end n cost : ℕ) → p + 1 ≡ at → at ≤ length row → IsEnd 127 row at end → n ≡ equal_at (drop p row)
+    → cost + p ≡ 1 + upto row end → (2 ≤ n → cost ≤ 2 + fewest (drop (p + n) row)) → IsFront row p cost end
+literal_front row p at end n cost next within is equal so no_more =
+    let own : upto row p ≤ 1 + upto row end = literal_upto row p end (omega (arith, next, is.on)) (omega (arith, next, is.near)) is.within in
+    let least : cost ≡ fewest (drop p row) = elim (no_less row p at end next within is) [
+      | inl literal ↦ omega (arith, own, so, literal)
+      | inr longest ↦ omega (arith, own, so, longest.1, no_more (omega (arith, longest.0, equal)), ap (λ k. fewest (drop (p + k) row)) equal)
+    ] in
     record {
       least = least;
       ends = record {
-        few = omega (arith, is.few);
-        within = omega (arith, is.within);
-        best = λ j few within. best_at least j few within;
-        nearest = λ j less. nearest_at least j less;
+        on = omega (arith, next, is.on);
+        near = omega (arith, next, is.near);
+        within = is.within;
+        best = λ j on few inside. elim (cases_lt p j) [
+          | inl more ↦ is.best j (omega (arith, more, next)) (omega (arith, few, next)) inside
+          | inr here ↦ let e : p ≡ j = omega arith in omega (arith, least, so, ap (upto row) e)
+        ];
+        nearest = λ j on before. elim (cases_lt p j) [
+          | inl more ↦ is.nearest j (omega (arith, more, next)) before
+          | inr here ↦ let e : p ≡ j = omega arith in omega (arith, least, so, ap (upto row) e)
+        ];
       };
     }
-  where
-    own : fewest (b ∷ row) ≤ 1 + suc end + fewest (drop end row)
-    own = literal_costs (b ∷ row) (suc end) (omega arith) (omega (arith, is.few)) (omega (arith, is.within))
-
-    by_step : ByLiteral (b ∷ row) ⊎ ByRun (b ∷ row) → cost ≡ fewest (b ∷ row)
-    by_step (inl lit) = omega (arith, own, lit.is, literal_worse b row end lit.count is lit.some lit.few lit.within)
-    by_step (inr run) =
-        omega (arith, own, run.is, run_longest (b ∷ row) run.count n (omega (arith, run.few)), no_less (omega (arith, run.some, run.few)))
-
-    best_at : cost ≡ fewest (b ∷ row) → (j : ℕ) → j ≤ 128 → j ≤ length (b ∷ row) → upto (b ∷ row) (suc end) ≤ upto (b ∷ row) j
-    best_at least zero few within = omega (arith, least)
-    best_at least (suc j) few within = omega (arith, is.best j (omega arith) (omega arith))
-
-    nearest_at : cost ≡ fewest (b ∷ row) → (j : ℕ) → j < suc end → upto (b ∷ row) (suc end) < upto (b ∷ row) j
-    nearest_at least zero less = omega (arith, least)
-    nearest_at least (suc j) less = omega (arith, is.nearest j (omega arith))
 
 -- ---- equal bytes, one more
 
@@ -134,78 +161,56 @@ equal_one [] some apart = absurd (omega arith)
 equal_one (b ∷ []) some apart = sym (equal_last b)
 equal_one (b ∷ c ∷ row) some apart = sym (equal_apart b c row (apart (omega arith)))
 
--- ---- at the front of a row of one byte or more
-
-pub run_front : (row : List ℕ) (end n cost : ℕ) → 0 < length row → IsEnd 127 (drop 1 row) end → n ≡ equal_at row → 2 ≤ n
-    → cost ≡ get_or (costs (drop 1 row)) (n - 1) 0 + 2 → cost < get_or (costs (drop 1 row)) end 0 + end + 2 → Next row cost 0
-run_front [] end n cost some is equal many so less = absurd (omega arith)
-run_front (b ∷ row) end zero cost some is equal many so less = absurd (omega arith)
-run_front (b ∷ row) end (suc n) cost some is equal many so less =
-    let before : suc n - 1 ≡ n = omega arith in
-    run_next b row end (suc n) cost is equal many
-    (omega (arith, so, ap (λ k. get_or (costs row) k 0) before, costs_drop n row (omega (arith, equal, (equal_within (b ∷ row)).1))))
-    (omega (arith, less, costs_drop end row is.within))
-
-pub literal_front : (row : List ℕ) (end n cost : ℕ) → 0 < length row → IsEnd 127 (drop 1 row) end → n ≡ equal_at row
-    → (2 ≤ n → cost ≤ get_or (costs (drop 1 row)) (n - 1) 0 + 2) → cost ≡ get_or (costs (drop 1 row)) end 0 + end + 2 → Next row cost (end + 1)
-literal_front [] end n cost some is equal no_less so = absurd (omega arith)
-literal_front (b ∷ row) end n cost some is equal no_less so =
-    let P : ℕ → Type 0 = Next (b ∷ row) cost in
-    let same : suc end ≡ end + 1 = omega arith in
-    subst P same (literal_next b row end n cost is equal (λ many. no_less_by n many equal (no_less many)) (omega (arith, so, costs_drop end row is.within)))
-  where
-    no_less_by : (n : ℕ) → 2 ≤ n → n ≡ equal_at (b ∷ row) → cost ≤ get_or (costs row) (n - 1) 0 + 2 → cost ≤ 2 + fewest (drop n (b ∷ row))
-    no_less_by zero many equal le = absurd (omega arith)
-    no_less_by (suc n) many equal le =
-        let before : suc n - 1 ≡ n = omega arith in
-        omega (arith, le, ap (λ k. get_or (costs row) k 0) before, costs_drop n row (omega (arith, equal, (equal_within (b ∷ row)).1)))
-
--- the entries of the table that are read
-pub entry_small : (row : List ℕ) (j : ℕ) → j ≤ length row → get_or (costs row) j 0 ≤ 2 * length row
-entry_small row j within = omega (arith, costs_drop j row within, fewest_most (drop j row), length-drop j row)
-
-pub entry_behind : (row : List ℕ) (j : ℕ) → 0 < length row → get_or (costs (drop 1 row)) j 0 ≡ get_or (costs row) (j + 1) 0
-unfolding costs
-entry_behind [] j some = absurd (omega arith)
-entry_behind (b ∷ row) j some = ap (λ k. get_or (costs (b ∷ row)) k 0) (let e : suc j ≡ j + 1 = omega arith in e)
-
 -- ---- the table
+
+-- an entry that is filled
+pub entry_at : (row table : List ℕ) (filled : Filled) (j : ℕ) → IsFilled row table filled → filled.at ≤ j → j ≤ length row
+    → get_or table j 0 ≡ fewest (drop j row)
+entry_at row table filled j is on within =
+    let there : filled.at + (j - filled.at) ≡ j = omega arith in
+    ap (λ k. get_or table k 0) (sym there)
+    ∙ sym (get_or-drop filled.at table (j - filled.at) 0)
+    ∙ ap (λ cs. get_or cs (j - filled.at) 0) is.done
+    ∙ costs_drop (j - filled.at) (drop filled.at row) (omega (arith, within, length-drop filled.at row))
+    ∙ ap fewest (drop-drop (j - filled.at) filled.at row)
+    ∙ ap (λ k. fewest (drop k row)) there
+
+-- which is small
+pub entry_fits : (row table : List ℕ) (filled : Filled) (j : ℕ) → IsFilled row table filled → filled.at ≤ j → j ≤ length row → get_or table j 0 ≤ 2 * length row
+entry_fits row table filled j is on within =
+    omega (arith, entry_at row table filled j is on within, fewest_most (drop j row), length-drop j row)
 
 -- nothing but the end is filled
 pub costs_begin : (row table : List ℕ) → length table ≡ length row + 1
-    → IsFilled row (set table (length row) 0) (record { at = length row; equal = 0; literal = 0; best = 0 })
+    → IsFilled row (set table (length row) 0) (record { at = length row; equal = 0; end = length row })
 unfolding costs
 costs_begin row table sized =
     let none : drop (length row) row ≡ [] = drop_all (length row) row (omega arith) in
-    let there : length row < length table = omega arith in
     let behind : drop (length row + 1) table ≡ [] = drop_all (length row + 1) table (omega arith) in
-    let P : List ℕ → Type 0 = λ rest. IsEnd 128 rest 0 in
     record {
       sized = omega (arith, length-set table (length row) 0);
       within = omega arith;
-      done = drop-set table (length row) 0 there ∙ ap (λ rest. 0 ∷ rest) behind ∙ ap costs (sym none);
+      done = drop-set table (length row) 0 (omega arith) ∙ ap (λ rest. 0 ∷ rest) behind ∙ ap costs (sym none);
       counted = sym (ap equal_at none ∙ equal_none);
       few = omega arith;
-      near = omega arith;
-      least = sym (ap (λ rest. get_or (costs rest) 0 0) none);
-      ends = subst P (sym none) (record {
-        few = omega arith;
+      ends = record {
+        on = omega arith;
+        near = omega arith;
         within = omega arith;
-        best = λ j few within. let at_0 : j ≡ 0 = omega arith in omega (arith, ap (upto []) at_0);
-        nearest = λ j less. absurd (omega arith);
-      });
+        best = λ j on few within. let e : length row ≡ j = omega arith in omega (arith, ap (upto row) e);
+        nearest = λ j on before. absurd (omega (arith, on, before));
+      };
     }
   where
     equal_none : equal_at [] ≡ 0
     equal_none = omega (arith, equal_is [])
 
 -- one more place is filled
-pub costs_step : {row table : List ℕ} {filled : Filled} {cost literal best equal : ℕ} → IsFilled row table filled → 0 < filled.at
-    → equal ≡ equal_at (drop (filled.at - 1) row) → cost ≡ get_or (costs (drop (filled.at - 1) row)) 0 0
-    → IsEnd 128 (drop (filled.at - 1) row) literal → best ≡ get_or (costs (drop (filled.at - 1) row)) literal 0
-    → IsFilled row (set table (filled.at - 1) cost) (record { at = filled.at - 1; equal = equal; literal = literal; best = best })
+pub costs_step : {row table : List ℕ} {filled : Filled} {cost end equal : ℕ} → IsFilled row table filled → 0 < filled.at
+    → equal ≡ equal_at (drop (filled.at - 1) row) → cost ≡ fewest (drop (filled.at - 1) row) → IsEnd 128 row (filled.at - 1) end
+    → IsFilled row (set table (filled.at - 1) cost) (record { at = filled.at - 1; equal = equal; end = end })
 unfolding costs
-costs_step {row} {table} {filled} {cost} {literal} {best} {equal} so_far some counted least ends near =
+costs_step {row} {table} {filled} {cost} {end} {equal} so_far some counted least ends =
     let at : ℕ = filled.at in
     let again : at - 1 + 1 ≡ at = omega arith in
     let here : at - 1 < length row = omega (arith, so_far.within) in
@@ -222,8 +227,6 @@ costs_step {row} {table} {filled} {cost} {literal} {best} {equal} so_far some co
           ∙ ap costs (sym rest);
       counted = counted;
       few = omega (arith, counted, (equal_within (drop (at - 1) row)).0);
-      near = ends.few;
-      least = near;
       ends = ends;
     }
 

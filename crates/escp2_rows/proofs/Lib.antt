@@ -2,7 +2,6 @@ pub mod Writing
 pub mod Steps
 pub mod Feeding
 pub mod Ends
-pub mod Sixteens
 pub mod Passing
 pub mod Triples
 pub mod Lanes

@@ -10,6 +10,7 @@ use Rattle.escp2_definitions.specs.RowCode.{with_front}
 use Rattle.escp2_definitions.specs.RowCode.Control.{Follow, Again, Refused}
 use Rattle.escp2_definitions.specs.RowCode.RowsRead.{RowsAre, RowsPart, RowsWrong}
 use Rattle.escp2_laws.proofs.Grammar.{row-part, row-step, row-wrong}
+use Rattle.escp2_laws.proofs.RowsTold.{RowsTold, packet-told, row-told}
 use Rattle.escp2_rows.specs.declared.reader.Place.{Place}
 use Rattle.escp2_rows.specs.declared.reader.Place.TheVariants.{Packet, Literal, Repeated, Failed}
 use Rattle.escp2_rows.specs.Places.{RowsForm, Stands, behind_control, is_failed, least_pending, pending, read_on, rest_at, rows_read}
@@ -31,74 +32,17 @@ front-append a b (RowsWrong at) = refl
 
 -- ---- what is read ends after its place
 
--- bytes as they are
-plain-passes : (count at : ℕ) (bytes row : List ℕ) (next : ℕ) → plain_at count at bytes ≡ RowsAre row next → at ≤ next
-plain-passes count at bytes row next = by_test (nat_lt (length bytes) count)
-  where
-    by_test : (b : Bool) → (if b then RowsPart else RowsAre (take count bytes) (at + count)) ≡ RowsAre row next → at ≤ next
-    by_test true e = absurd (let no : RowsPart ≡ RowsAre row next = e in cc)
-    by_test false e = omega (arith, places _ _ _ _ e)
-      where
-        places : (rs ss : List ℕ) (j k : ℕ) → RowsAre rs j ≡ RowsAre ss k → j ≡ k
-        places rs ss j k e = cc
-
--- a repeated byte
-again-passes : (count at : ℕ) (bytes row : List ℕ) (next : ℕ) → again_at count at bytes ≡ RowsAre row next → at ≤ next
-again-passes count at [] row next e = absurd (let no : RowsPart ≡ RowsAre row next = e in cc)
-again-passes count at (b ∷ bytes) row next e = omega (arith, places _ _ _ _ e)
-  where
-    places : (rs ss : List ℕ) (j k : ℕ) → RowsAre rs j ≡ RowsAre ss k → j ≡ k
-    places rs ss j k e = cc
-
--- what a control byte stands for
-controlled-passes : (c : Control) (left at : ℕ) (bytes row : List ℕ) (next : ℕ) → controlled c left at bytes ≡ RowsAre row next → at ≤ next
-controlled-passes (Follow n) left at bytes row next e = by_test (nat_lt left n) e
-  where
-    by_test : (b : Bool) → (if b then RowsWrong at else plain_at n (at + 1) bytes) ≡ RowsAre row next → at ≤ next
-    by_test true e = absurd (let no : RowsWrong at ≡ RowsAre row next = e in cc)
-    by_test false e = omega (arith, plain-passes n (at + 1) bytes row next e)
-controlled-passes (Again n) left at bytes row next e = by_test (nat_lt left n) e
-  where
-    by_test : (b : Bool) → (if b then RowsWrong at else again_at n (at + 1) bytes) ≡ RowsAre row next → at ≤ next
-    by_test true e = absurd (let no : RowsWrong at ≡ RowsAre row next = e in cc)
-    by_test false e = omega (arith, again-passes n (at + 1) bytes row next e)
-controlled-passes Refused left at bytes row next e = absurd (let no : RowsWrong at ≡ RowsAre row next = e in cc)
+passes : (read : List ℕ → RowsRead) (at : ℕ) (bytes row : List ℕ) (next : ℕ) (answer : RowsRead) → RowsTold read at bytes answer
+    → answer ≡ RowsAre row next → at ≤ next
+passes read at bytes row next answer told e = let P : RowsRead → Type 0 = RowsTold read at bytes in omega (arith, (subst P e told).there)
 
 -- a packet
 packet-passes : (left at : ℕ) (bytes row : List ℕ) (next : ℕ) → packet_at left at bytes ≡ RowsAre row next → at ≤ next
-packet-passes left at [] row next e = absurd (let no : RowsPart ≡ RowsAre row next = e in cc)
-packet-passes left at (n ∷ bytes) row next e = controlled-passes (control_of n) left at bytes row next e
+packet-passes left at bytes row next e = passes (packet_at left at) at bytes row next (packet_at left at bytes) (packet-told left at bytes) e
 
 -- the rest of a row
 row_at-passes : (most left at : ℕ) (bytes row : List ℕ) (next : ℕ) → row_at most left at bytes ≡ RowsAre row next → at ≤ next
-unfolding row_at
-row_at-passes most zero at bytes row next e = omega (arith, places _ _ _ _ e)
-  where
-    places : (rs ss : List ℕ) (j k : ℕ) → RowsAre rs j ≡ RowsAre ss k → j ≡ k
-    places rs ss j k e = cc
-row_at-passes zero (suc left) at bytes row next e = absurd (let no : RowsPart ≡ RowsAre row next = e in cc)
-row_at-passes (suc most) (suc left) at bytes row next e =
-    by_packet (λ left at bytes row next e. row_at-passes most left at bytes row next e) (packet_at (suc left) at bytes) refl
-  where
-    by_rest : (front : List ℕ) (behind : ℕ) (r : RowsRead) → at ≤ behind
-        → ((rows : List ℕ) (place : ℕ) → r ≡ RowsAre rows place → behind ≤ place)
-        → with_front front r ≡ RowsAre row next → at ≤ next
-    by_rest front behind (RowsAre rows place) passed passed_rest same =
-        let last : place ≡ next = cc in
-        omega (arith, passed_rest rows place refl)
-    by_rest front behind RowsPart passed passed_rest same = absurd (let no : RowsPart ≡ RowsAre row next = same in cc)
-    by_rest front behind (RowsWrong place) passed passed_rest same = absurd (let no : RowsWrong place ≡ RowsAre row next = same in cc)
-
-    by_packet : ((left at : ℕ) (bytes row : List ℕ) (next : ℕ) → row_at most left at bytes ≡ RowsAre row next → at ≤ next)
-        → (r : RowsRead) → packet_at (suc left) at bytes ≡ r → at ≤ next
-    by_packet rest_passes (RowsAre front behind) is =
-        by_rest front behind (row_at most (suc left - length front) behind (drop (behind - at) bytes))
-        (packet-passes (suc left) at bytes front behind is)
-        (λ rows place. rest_passes (suc left - length front) behind (drop (behind - at) bytes) rows place)
-        (sym (row-step most left at bytes front behind is) ∙ e)
-    by_packet rest_passes RowsPart is = absurd (let no : RowsPart ≡ RowsAre row next = sym (row-part most left at bytes is) ∙ e in cc)
-    by_packet rest_passes (RowsWrong place) is =
-        absurd (let no : RowsWrong place ≡ RowsAre row next = sym (row-wrong most left at bytes place is) ∙ e in cc)
+row_at-passes most left at bytes row next e = passes (row_at most left at) at bytes row next (row_at most left at bytes) (row-told most left at bytes) e
 
 -- ---- the rest of the rows
 
@@ -319,13 +263,6 @@ literal-read n left m width more most at bytes rest whole = by_length (nat_lt (l
         ∙ sym (front-append bytes (take more rest)
         (rest_at most (left - length bytes - more) m width (at + length bytes + more) (drop more rest)))
 
--- bytes as they are, up to the last
-pub literal_moves : (n left m width more : ℕ) (bytes : List ℕ) → length bytes + more ≡ n
-    → Moves (Literal n) left m width bytes bytes (Literal more) (left - length bytes) m width
-literal_moves n left m width more bytes whole = record {
-  on = λ most enough. (most, λ still. omega (arith, enough refl), λ at rest. literal-read n left m width more most at bytes rest whole);
-}
-
 -- where none of them is left, a packet is next
 literal-none : (most left m width at : ℕ) (rest : List ℕ)
     → read_on (Literal 0) most left m width at rest ≡ rest_at most left m width at rest
@@ -394,9 +331,14 @@ next_left left m width count m' all more = omega (arith, ap (λ k. k * width) mo
 -- bytes as they are, before the last
 pub literal_part : {n left m width more left' : ℕ} {bytes : List ℕ} → length bytes + more ≡ n → left' ≡ left - length bytes
     → Moves (Literal n) left m width bytes bytes (Literal more) left' m width
-literal_part {n} {left} {m} {width} {more} {bytes} whole less =
-    let P : ℕ → Type 0 = λ k. Moves (Literal n) left m width bytes bytes (Literal more) k m width in
-    subst P (sym less) (literal_moves n left m width more bytes whole)
+literal_part {n} {left} {m} {width} {more} {left'} {bytes} whole less = record {
+  on = λ most enough. (
+    most,
+    λ still. omega (arith, less, enough refl),
+    λ at rest. literal-read n left m width more most at bytes rest whole
+        ∙ ap (λ k. with_front bytes (read_on (Literal more) most k m width (at + length bytes) rest)) (sym less),
+  );
+}
 
 -- ---- the first place
 

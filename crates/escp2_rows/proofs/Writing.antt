@@ -12,11 +12,11 @@ use Rattle.escp2_definitions.specs.RowCode.{RowPacket, packet_code, packet_row}
 use Rattle.escp2_definitions.specs.RowCode.RowPacket.{Bytes, Repeat}
 use Rattle.escp2_definitions.specs.Least.{cost_from, costs, equal_at, least_packet, least_row, literals, packets_at, packets_from, runs}
 use Rattle.escp2_rows.specs.Literals.{IsLongest, LongestSoFar, WritesFirst}
-use Rattle.escp2_laws.proofs.Fewest.{ByLiteral, ByRun, cost_is, costs_drop, equal_within, equal_is, fewest, first_step, length_costs, literal_costs}
-use Rattle.escp2_laws.proofs.Fewest.{run_costs, same, same_cons, same_within}
+use Rattle.escp2_laws.proofs.Fewest.{ByLiteral, cost_is, costs_drop, equal_within, equal_is, fewest, length_costs, literal_costs}
+use Rattle.escp2_laws.proofs.Fewest.{same, same_cons, same_within}
 use Rattle.escp2_laws.proofs.Least.{IsFirst, first_of_row}
-use Rattle.escp2_rows.proofs.Ends.{entry_small, run_longest}
-use Rattle.escp2_rows.proofs.Passing.{run_is_least}
+use Rattle.escp2_rows.proofs.Ends.{run_longest}
+use Rattle.escp2_rows.proofs.Passing.{literal_is_least, run_is_least}
 
 -- ---- which packet is the first one that passes
 
@@ -32,15 +32,6 @@ passes test p ps d e = ap (λ t. get_or (cond t (p ∷ filter test ps) (filter t
 
 fails : (test : RowPacket → Bool) (p : RowPacket) (ps : List RowPacket) → test p ≡ false → filter test (p ∷ ps) ≡ filter test ps
 fails test p ps e = ap (λ t. cond t (p ∷ filter test ps) (filter test ps)) e
-
-no_runs : (test : RowPacket → Bool) (n byte : ℕ) (ps : List RowPacket) → ((k : ℕ) → 2 ≤ k → k ≤ n → test (Repeat k byte) ≡ false)
-    → filter test (runs n byte ++ ps) ≡ filter test ps
-unfolding runs
-no_runs test zero byte ps none = refl
-no_runs test (suc zero) byte ps none = refl
-no_runs test (suc (suc n)) byte ps none =
-    fails test (Repeat (suc (suc n)) byte) (runs (suc n) byte ++ ps) (none (suc (suc n)) (omega arith) (omega arith))
-    ∙ no_runs test (suc n) byte ps (λ k some few. none k some (omega arith))
 
 longest_first : (test : RowPacket → Bool) (n m : ℕ) (row : List ℕ) (d : RowPacket) → 1 ≤ n → n ≤ m → test (Bytes (take n row)) ≡ true
     → ((k : ℕ) → n < k → k ≤ m → test (Bytes (take k row)) ≡ false) → get_or (filter test (literals m row)) 0 d ≡ Bytes (take n row)
@@ -76,125 +67,58 @@ run_found b row zero ps test d some e = absurd (omega arith)
 run_found b row (suc zero) ps test d some e = absurd (omega arith)
 run_found b row (suc (suc n)) ps test d some e = passes test (Repeat (suc (suc n)) b) (runs (suc n) b ++ ps) d e
 
-pub least_run : (row : List ℕ) → 0 < length row → 2 ≤ equal_at row → fewest row ≡ 2 + fewest (drop (equal_at row) row)
-    → least_packet row ≡ Repeat (equal_at row) (get_or row 0 0)
+pub least_run : (row : List ℕ) → 2 ≤ equal_at row → least_packet row ≡ Repeat (equal_at row) (get_or row 0 0)
 unfolding least_packet packets_at costs
-least_run [] some many is = absurd (omega arith)
-least_run (b ∷ row) some many is =
+least_run [] many = absurd (omega (arith, many, (equal_within []).1))
+least_run (b ∷ row) many =
     run_found b row (equal_at (b ∷ row)) _ (λ p. cost_from (costs row) p == fewest (b ∷ row)) (Bytes []) many
-    (eq-eqb _ _ (run_cost b row (equal_at (b ∷ row)) (omega arith) (equal_within (b ∷ row)).1 ∙ sym is))
+    (eq-eqb _ _ (run_cost b row (equal_at (b ∷ row)) (omega arith) (equal_within (b ∷ row)).1 ∙ sym (run_is_least (b ∷ row) many)))
 
-pub least_literal : (row : List ℕ) (n : ℕ) → 0 < length row → (2 ≤ equal_at row → fewest row ≢ 2 + fewest (drop (equal_at row) row))
-    → IsLongest row n → least_packet row ≡ Bytes (take n row)
-unfolding least_packet packets_at costs
-least_literal [] n some no_run is = absurd (omega arith)
-least_literal (b ∷ row) n some no_run is =
-    ap (λ ps. get_or ps 0 (Bytes [])) (no_runs test (equal_at (b ∷ row)) b (literals (min 128 (length (b ∷ row))) (b ∷ row)) none)
-    ∙ longest_first test n (min 128 (length (b ∷ row))) (b ∷ row) (Bytes []) is.some (omega (arith, is.few, is.within))
+pub least_literal : (row : List ℕ) (n : ℕ) → equal_at row ≡ 1 → IsLongest row n → least_packet row ≡ Bytes (take n row)
+unfolding least_packet packets_at costs runs
+least_literal [] n alone is = absurd (omega (arith, is.some, is.within))
+least_literal (b ∷ row) n alone is =
+    ap (λ k. get_or (filter test (runs k b ++ literals most (b ∷ row))) 0 (Bytes [])) alone
+    ∙ longest_first test n most (b ∷ row) (Bytes []) is.some (omega (arith, is.few, is.within))
     (eq-eqb _ _ (literal_cost b row n is.some is.within ∙ sym is.is))
     (λ k more few. not_equal _ _ (longer k more few))
   where
+    most : ℕ
+    most = min 128 (length (b ∷ row))
+
     test : RowPacket → Bool
     test p = cost_from (costs row) p == fewest (b ∷ row)
 
-    none : (k : ℕ) → 2 ≤ k → k ≤ equal_at (b ∷ row) → test (Repeat k b) ≡ false
-    none k many few =
-        not_equal _ _ (λ e. no_run (omega arith) (omega (
-          arith,
-          e,
-          run_cost b row k (omega arith) (omega (arith, (equal_within (b ∷ row)).1)),
-          run_longest (b ∷ row) k (equal_at (b ∷ row)) few,
-          run_costs (b ∷ row) (equal_at (b ∷ row)) (omega arith) (omega arith),
-        )))
-
-    longer : (k : ℕ) → n < k → k ≤ min 128 (length (b ∷ row)) → cost_from (costs row) (Bytes (take k (b ∷ row))) ≢ fewest (b ∷ row)
+    longer : (k : ℕ) → n < k → k ≤ most → cost_from (costs row) (Bytes (take k (b ∷ row))) ≢ fewest (b ∷ row)
     longer k more few = λ e. absurd (omega (arith, e, literal_cost b row k (omega arith) (omega arith), is.longest k more (omega arith) (omega arith)))
 
 -- ---- the longest literal
 
-pub longest_begin : (row : List ℕ) (count : ℕ) → 0 < length row → (2 ≤ equal_at row → fewest row ≢ 2 + fewest (drop (equal_at row) row))
-    → count ≡ min (length row) 128 → LongestSoFar row count
-longest_begin [] count some no_run is = absurd (omega arith)
-longest_begin (b ∷ row) count some no_run is = by_step (first_step b row)
-  where
-    by_step : ByLiteral (b ∷ row) ⊎ ByRun (b ∷ row) → LongestSoFar (b ∷ row) count
-    by_step (inl lit) = record {
-      some = lit.count;
-      one = lit.some;
-      below = omega (arith, lit.few, lit.within);
-      few = omega arith;
-      within = omega arith;
-      reached = lit.is;
-      longer = λ k more few within. absurd (omega arith);
-    }
-    by_step (inr run) =
-        absurd (no_run (omega (arith, run.some, run.few)) (omega (
-          arith,
-          run.is,
-          run_longest (b ∷ row) run.count (equal_at (b ∷ row)) run.few,
-          run_costs (b ∷ row) (equal_at (b ∷ row)) (omega (arith, run.some, run.few)) (omega arith),
-        )))
+-- one with no more bytes costs least
+least_within : (row : List ℕ) (count : ℕ) → equal_at row ≡ 1 → LongestSoFar row count → (lit : ByLiteral row) × (lit.count ≤ count)
+least_within row count alone so_far =
+    let lit : ByLiteral row = literal_is_least row (omega (arith, alone, (equal_within row).1)) alone in (
+      lit,
+      elim (cases_lt count lit.count) [
+        | inl more ↦ absurd (omega (arith, lit.is, so_far.longer lit.count more lit.few lit.within))
+        | inr le ↦ le
+      ],
+    )
 
-pub longest_step : (row : List ℕ) (count passed : ℕ) → LongestSoFar row count → fewest row + passed ≡ 1 + count + fewest (drop count row) → 0 < passed
-    → (passed < count) × LongestSoFar row (count - passed)
-longest_step row count passed so_far is some =
-    let below : so_far.some + passed ≤ count = omega (arith, is, so_far.reached, so_far.below, run_longest row so_far.some count so_far.below) in (
-      omega (arith, below, so_far.one),
+longest_step : (row : List ℕ) (count passed : ℕ) → equal_at row ≡ 1 → LongestSoFar row count → fewest row + passed ≡ 1 + count + fewest (drop count row)
+    → 0 < passed → (passed < count) × LongestSoFar row (count - passed)
+longest_step row count passed alone so_far is some =
+    let least : (lit : ByLiteral row) × (lit.count ≤ count) = least_within row count alone so_far in (
+      omega (arith, is, least.0.is, least.0.some, least.1, run_longest row least.0.count count least.1),
       record {
-        some = so_far.some;
-        one = so_far.one;
-        below = omega (arith, below);
         few = omega (arith, so_far.few);
         within = omega (arith, so_far.within);
-        reached = so_far.reached;
-        longer = λ k more few within. by_place k more few within (cases_lt count k);
+        longer = λ k more few within. elim (cases_lt count k) [
+          | inl far ↦ so_far.longer k far few within
+          | inr near ↦ omega (arith, is, more, run_longest row k count near)
+        ];
       },
     )
-  where
-    by_place : (k : ℕ) → count - passed < k → k ≤ 128 → k ≤ length row → (count < k) ⊎ (k ≤ count) → fewest row < 1 + k + fewest (drop k row)
-    by_place k more few within (inl far) = so_far.longer k far few within
-    by_place k more few within (inr near) = omega (arith, is, run_longest row k count near)
-
-pub longest_end : (row : List ℕ) (count : ℕ) → LongestSoFar row count → 1 + count + fewest (drop count row) ≤ fewest row → IsLongest row count
-longest_end row count so_far le = record {
-  some = omega (arith, so_far.one, so_far.below);
-  few = so_far.few;
-  within = so_far.within;
-  is = omega (arith, le, literal_costs row count (omega (arith, so_far.one, so_far.below)) so_far.few so_far.within);
-  longest = so_far.longer;
-}
-
--- sixteen places at none of which a literal that costs least ends
-pub longest_jump : (row table : List ℕ) (count : ℕ) → table ≡ costs row → LongestSoFar row count → 15 < count
-    → ((i : ℕ) → i < 16 → 1 + (count - 15 + i) + get_or table (count - 15 + i) 0 ≢ fewest row) → LongestSoFar row (count - 16)
-longest_jump row table count is so_far room none = record {
-  some = so_far.some;
-  one = so_far.one;
-  below = by_some (cases_lt (count - 16) so_far.some);
-  few = omega (arith, so_far.few);
-  within = omega (arith, so_far.within);
-  reached = so_far.reached;
-  longer = λ k more few within. by_place k more few within (cases_lt count k);
-}
-  where
-    cost : (k : ℕ) → k ≤ length row → get_or table k 0 ≡ fewest (drop k row)
-    cost k within = ap (λ cs. get_or cs k 0) is ∙ costs_drop k row within
-
-    dearer : (k : ℕ) → count - 16 < k → k ≤ count → 1 + k + fewest (drop k row) ≢ fewest row
-    dearer k more near = λ e.
-        let there : count - 15 + (k + 15 - count) ≡ k = omega (arith, more, room) in
-        none (k + 15 - count) (omega (arith, near)) (ap (λ n. 1 + n + get_or table n 0) there
-        ∙ ap (λ c. 1 + k + c) (cost k (omega (arith, near, so_far.within))) ∙ e)
-
-    by_some : (count - 16 < so_far.some) ⊎ (so_far.some ≤ count - 16) → so_far.some ≤ count - 16
-    by_some (inr le) = le
-    by_some (inl more) = absurd (dearer so_far.some more so_far.below (sym so_far.reached))
-
-    by_place : (k : ℕ) → count - 16 < k → k ≤ 128 → k ≤ length row → (count < k) ⊎ (k ≤ count) → fewest row < 1 + k + fewest (drop k row)
-    by_place k more few within (inl far) = so_far.longer k far few within
-    by_place k more few within (inr near) =
-        let least : fewest row ≤ 1 + k + fewest (drop k row) = literal_costs row k (omega (arith, more)) few within in
-        omega (arith, least, dearer k more near)
 
 -- the first packet of a row may stand there
 pub first_is : (row : List ℕ) → 0 < length row → IsFirst row (least_packet row)
@@ -246,30 +170,36 @@ entry_is row table j is within = ap (λ cs. get_or cs j 0) is ∙ costs_drop j r
 pub table_sized : (row table : List ℕ) → table ≡ costs row → length table ≡ length row + 1
 table_sized row table is = ap length is ∙ length_costs row
 
-pub table_small : (row table : List ℕ) (j : ℕ) → table ≡ costs row → j ≤ length row → get_or table j 0 ≤ 2 * length row
-table_small row table j is within = omega (arith, ap (λ cs. get_or cs j 0) is, entry_small row j within)
-
-pub literal_shrinks : (row table : List ℕ) (count least cost : ℕ) → table ≡ costs row → LongestSoFar row count → least ≡ get_or table 0 0 → cost ≡ get_or table count 0
-    → least < count + 1 + cost → (count + 1 + cost - least ≤ count) × LongestSoFar row (count - (count + 1 + cost - least))
-literal_shrinks row table count least cost is so_far first there more =
+pub literal_shrinks : (row table : List ℕ) (count least cost : ℕ) → table ≡ costs row → equal_at row ≡ 1 → LongestSoFar row count → least ≡ get_or table 0 0
+    → cost ≡ get_or table count 0 → least < count + 1 + cost
+    → (count + 1 + cost - least ≤ count) × LongestSoFar row (count - (count + 1 + cost - least))
+literal_shrinks row table count least cost is alone so_far first there more =
     let step : (count + 1 + cost - least < count) × LongestSoFar row (count - (count + 1 + cost - least)) =
-    longest_step row count (count + 1 + cost - least) so_far
+    longest_step row count (count + 1 + cost - least) alone so_far
     (omega (arith, first, there, entry_is row table 0 is (omega arith), entry_is row table count is so_far.within)) (omega arith) in
     (omega (arith, step.0), step.1)
 
-pub literal_stays : (row table : List ℕ) (count least cost : ℕ) → table ≡ costs row → LongestSoFar row count → least ≡ get_or table 0 0 → cost ≡ get_or table count 0
-    → count + 1 + cost ≤ least → IsLongest row count
-literal_stays row table count least cost is so_far first there le =
-    longest_end row count so_far (omega (arith, first, there, le, entry_is row table 0 is (omega arith), entry_is row table count is so_far.within))
+pub literal_stays : (row table : List ℕ) (count least cost : ℕ) → table ≡ costs row → equal_at row ≡ 1 → LongestSoFar row count → least ≡ get_or table 0 0
+    → cost ≡ get_or table count 0 → count + 1 + cost ≤ least → IsLongest row count
+literal_stays row table count least cost is alone so_far first there le =
+    let reached : (lit : ByLiteral row) × (lit.count ≤ count) = least_within row count alone so_far in
+    let some : 1 ≤ count = omega (arith, reached.1, reached.0.some) in
+    let cheap : 1 + count + fewest (drop count row) ≤ fewest row =
+    omega (arith, first, there, le, entry_is row table 0 is (omega arith), entry_is row table count is so_far.within) in
+    record {
+      some = some;
+      few = so_far.few;
+      within = so_far.within;
+      is = omega (arith, cheap, literal_costs row count some so_far.few so_far.within);
+      longest = so_far.longer;
+    }
 
 -- ---- the packet that is written
 
 pub run_first : (row out : List ℕ) (n : ℕ) → n ≡ equal_at row → 2 ≤ n → 2 * length row ≤ length out
     → WritesFirst row n 2 (set (set out 0 (257 - n)) 1 (get_or row 0 0))
 run_first row out n equal many room =
-    let some : 0 < length row = omega (arith, equal, many, (equal_within row).1) in
-    let is : least_packet row ≡ Repeat n (get_or row 0 0) =
-    least_run row some (omega arith) (run_is_least row (omega arith)) ∙ ap (λ k. Repeat k (get_or row 0 0)) (sym equal) in
+    let is : least_packet row ≡ Repeat n (get_or row 0 0) = least_run row (omega (arith, equal)) ∙ ap (λ k. Repeat k (get_or row 0 0)) (sym equal) in
     record {
       code_is = coded out (omega (arith, equal, many, room, (equal_within row).1)) ∙ ap packet_code (sym is);
       bytes_are = sym (length-replicate {A = ℕ} n (get_or row 0 0)) ∙ ap (λ p. length (packet_row p)) (sym is);
@@ -283,13 +213,10 @@ run_first row out n equal many room =
     coded (a ∷ []) room = absurd (omega arith)
     coded (a ∷ b ∷ out) room = refl
 
-no_run : (row : List ℕ) → equal_at row ≡ 1 → 2 ≤ equal_at row → fewest row ≢ 2 + fewest (drop (equal_at row) row)
-no_run row alone many = absurd (omega arith)
-
 pub literal_first : (row out bytes : List ℕ) (n k : ℕ) → equal_at row ≡ 1 → IsLongest row n → 2 * length row ≤ length out → bytes ≡ take n row
     → WritesFirst row n (1 + n) (put_mid 1 k (set out 0 (n - 1)) bytes)
 literal_first row out bytes n k alone longest room are =
-    let is : least_packet row ≡ Bytes (take n row) = least_literal row n (omega (arith, longest.some, longest.within)) (no_run row alone) longest in
+    let is : least_packet row ≡ Bytes (take n row) = least_literal row n alone longest in
     let len : length (take n row) ≡ n = length-take-le n row longest.within in
     record {
       code_is = coded out (omega (arith, longest.some, longest.within, room)) ∙ ap packet_code (sym is);
@@ -316,9 +243,6 @@ unfolding costs
 costs_behind row zero within = refl
 costs_behind [] (suc at) within = absurd (omega arith)
 costs_behind (b ∷ row) (suc at) within = costs_behind row at (omega arith)
-
-pub entry_fits : (row table : List ℕ) (j : ℕ) → table ≡ costs row → j ≤ length row → get_or table j 0 ≤ 2 * length row
-entry_fits row table j is within = omega (arith, ap (λ cs. get_or cs j 0) is, entry_small row j within)
 
 -- ---- the row
 

@@ -12,14 +12,10 @@ pub record IsLongest (row : List ℕ) (n : ℕ) : Type 0 where
   pub is : cost row ≡ 1 + n + cost (drop n row)
   pub longest : (k : ℕ) → n < k → k ≤ 128 → k ≤ length row → cost row < 1 + k + cost (drop k row)
 
--- All literals at the front of a row with more bytes than this cost more, and one with no more costs least.
+-- All literals at the front of a row that have more bytes than this cost more.
 pub record LongestSoFar (row : List ℕ) (count : ℕ) : Type 0 where
-  pub some : ℕ
-  pub one : 1 ≤ some
-  pub below : some ≤ count
   pub few : count ≤ 128
   pub within : count ≤ length row
-  pub reached : cost row ≡ 1 + some + cost (drop some row)
   pub longer : (k : ℕ) → count < k → k ≤ 128 → k ≤ length row → cost row < 1 + k + cost (drop k row)
 
 -- The bytes begin with the code of the row's first packet, so many of them, which gives so many bytes of the row.

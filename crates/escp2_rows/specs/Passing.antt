@@ -1,9 +1,12 @@
--- Where a literal ends, told by the bytes of its row: which runs of equal bytes it passes over, and which it ends at.
-use Rattle.std.specs.Prelude.{◌≡◌, ◌==◌, ◌&&◌, ℕ, ◌+◌, ◌*◌, ◌<◌, ◌≤◌, if◌then◌else◌, Bool, List, length, drop, slice_index}
+-- How far a literal at the front of a row goes, told by the bytes that follow.
+use Rattle.std.specs.Prelude.{◌≡◌, ◌==◌, ◌&&◌, ℕ, ◌+◌, ◌≤◌, if◌then◌else◌, Bool, List, length, drop, slice_index}
 use Rattle.std.specs.Int.{trailing_zeros, w64}
-use Rattle.escp2_definitions.specs.Least.{costs, equal_at}
+use Rattle.std.specs.List.{take_while}
+use Rattle.escp2_definitions.specs.Least.{costs}
 use Rattle.escp2_rows.specs.declared.literals.Behind.{Behind}
 use Rattle.escp2_rows.specs.declared.literals.Behind.TheVariants.{Ends, Goes, Unknown}
+
+-- ---- bytes
 
 -- the lowest bit that is set of a mask of sixteen, or 16
 abbrev pub first_of_sixteen : ℕ → ℕ
@@ -13,41 +16,38 @@ first_of_sixteen mask = if mask == 0 then 16 else trailing_zeros w64 mask
 abbrev pub are_three : List ℕ → ℕ → Bool
 are_three row i = (slice_index row i == slice_index row (i + 1)) && (slice_index row (i + 1) == slice_index row (i + 2))
 
+-- how many bytes from the front on are equal
+abbrev pub run_of : List ℕ → ℕ
+run_of row = length (take_while (λ byte. byte == slice_index row 0) row)
+
+-- ---- costs
+
 -- what a row costs
 abbrev pub cost : List ℕ → ℕ
 cost row = slice_index (costs row) 0
 
--- A literal from before the row that goes on into it costs more than one that ends before it.
-pub record IsStop (row : List ℕ) : Type 0 where
-  pub less : (m : ℕ) → 1 ≤ m → m ≤ 128 → m ≤ length row → cost row < m + cost (drop m row)
+-- the bytes of a literal up to this place, and what the row costs behind it
+abbrev pub upto : List ℕ → ℕ → ℕ
+upto row j = j + cost (drop j row)
 
--- A literal from before the row that goes on into it costs no less than one that ends before it.
-pub record IsFree (row : List ℕ) : Type 0 where
-  pub most : (m : ℕ) → m ≤ 128 → m ≤ length row → cost row ≤ m + cost (drop m row)
+-- A literal that comes to a place costs at least this much more where it ends at one of the 128 places behind it: with
+-- 0 a literal may end at the place, with 1 it has to.
+pub record EndsAt (more : ℕ) (row : List ℕ) (place : ℕ) : Type 0 where
+  pub less : (k : ℕ) → place + more ≤ k → k ≤ place + 128 → k ≤ length row → upto row place + more ≤ upto row k
 
--- The bytes from one place up to another are pairs, each of another byte than the next.
-pub record ArePairs (row : List ℕ) (from to : ℕ) : Type 0 where
-  pub count : ℕ
-  pub is : to ≡ from + 2 * count
+-- A literal costs the same where it ends at either of two places, and no less where it ends at one between them.
+pub record IsLevel (row : List ℕ) (from to : ℕ) : Type 0 where
+  pub on : from ≤ to
   pub within : to ≤ length row
-  pub each : (i : ℕ) → i < count → equal_at (drop (from + 2 * i) row) ≡ 2
-  pub few : (n : ℕ) → from ≤ n → n < to → equal_at (drop n row) ≤ 2
-  pub last : (n : ℕ) → from ≤ n → n + 1 ≡ to → equal_at (drop n row) ≡ 1
+  pub same : upto row from ≡ upto row to
+  pub least : (n : ℕ) → from ≤ n → n ≤ to → upto row to ≤ upto row n
 
--- From a place on there are pairs, and then a byte that differs from the next: the last one before another place.
-pub record Rejoins (row : List ℕ) (from at : ℕ) : Type 0 where
-  pub single : ℕ
-  pub before : single < at
-  pub pairs : ArePairs row from single
-  pub alone : equal_at (drop single row) ≡ 1
-
--- A literal from the front of the row goes on up to this place: it passes over single bytes, over pairs, and over three
--- equal bytes where a single byte follows, if need be behind pairs.
+-- A literal from the front of the row goes on up to a place: wherever from there on it may end best, it costs no less
+-- where it ends before the place.
 pub record GoesOn (row : List ℕ) (at : ℕ) : Type 0 where
   pub within : at ≤ length row
-  pub few : (n : ℕ) → n < at → equal_at (drop n row) ≤ 3
-  pub ends : (n : ℕ) → n < at → n + equal_at (drop n row) ≤ at
-  pub rejoined : (n : ℕ) → n < at → equal_at (drop n row) ≡ 3 → Rejoins row (n + 3) at
+  pub later : (end : ℕ) → at ≤ end → end ≤ length row → EndsAt 0 row end
+      → ((k : ℕ) → at ≤ k → k ≤ end → upto row end ≤ upto row k) → (n : ℕ) → n ≤ at → upto row end ≤ upto row n
 
 -- ---- what is told of a run of three or more
 
@@ -62,11 +62,3 @@ abbrev pub OnGoes : Behind → (ℕ → Type 0) → Type 0
 OnGoes Ends P = Unit {0}
 OnGoes (Goes at) P = P at
 OnGoes Unknown P = Unit {0}
-
--- Three equal bytes are passed over, up to this place, which is right behind a single one.
-pub record PassesThree (row : List ℕ) (three at : ℕ) : Type 0 where
-  pub three_are : equal_at (drop three row) ≡ 3
-  pub rejoins : Rejoins row (three + 3) at
-  pub end : at ≡ rejoins.single + 1
-  pub within : at ≤ length row
-  pub after : three < at

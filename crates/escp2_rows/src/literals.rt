@@ -1,8 +1,7 @@
 //! Where the first literal of a row ends, told by the bytes that follow it.
 ghost use Rattle.escp2_definitions.specs.Least.{equal_at};
 ghost use Rattle.escp2_rows.specs.Literals.{IsLongest};
-ghost use Rattle.escp2_rows.specs.Passing.{ArePairs, GoesOn, IsStop, OnEnds, OnGoes, PassesThree, are_three};
-ghost use Rattle.escp2_rows.specs.Passing.{first_of_sixteen};
+ghost use Rattle.escp2_rows.specs.Passing.{EndsAt, GoesOn, IsLevel, OnEnds, OnGoes, are_three, first_of_sixteen, run_of};
 ghost use Rattle.std.specs.List.{take_while};
 ghost use Rattle.std.specs.Prelude.{IfSome, drop, false, length, slice_index, true, ℕ, ◌+◌, ◌<◌, ◌==◌, ◌≡◌, ◌≢◌, ◌≤◌};
 
@@ -140,7 +139,7 @@ fn next_triple(row: &[u8], from: usize) -> usize
 // Whether the row begins with two equal bytes and no more.
 #[inline]
 fn is_pair(row: &[u8]) -> bool
-    ensures { result ≡ (equal_at row.now == 2) }
+    ensures { result ≡ true → equal_at row.now ≡ 2 }
 {
     if row.len() < 2 {
         return false;
@@ -155,14 +154,22 @@ fn is_pair(row: &[u8]) -> bool
 #[inline]
 fn behind_pairs(row: &[u8], from: usize) -> usize
     requires { from ≤ length row.now }
-    ensures pairs { ArePairs row.now from result }
-    ensures end { equal_at (drop result row.now) ≢ 2 }
+    ensures { IsLevel row.now from result }
 {
     let mut at = from;
     'pairs: while is_pair(&row[at..]) {
         at += 2;
     }
     at
+}
+
+// How many bytes at the beginning are equal.
+#[inline]
+fn equal_run(row: &[u8]) -> usize
+    requires { 0 < length row.now }
+    ensures { result ≡ run_of row.now }
+{
+    copies(row, row[0])
 }
 
 // What the bytes tell of a literal that comes to a run of three or more.
@@ -180,25 +187,27 @@ enum Behind {
 fn behind_run(row: &[u8], three: usize) -> Behind
     requires three { 3 ≤ equal_at (drop three row.now) }
     requires within { three < length row.now }
-    ensures ends { OnEnds result (IsStop (drop three row.now)) }
-    ensures goes { OnGoes result (PassesThree row.now three) }
+    requires goes { GoesOn row.now three }
+    ensures ends { OnEnds result (EndsAt 1 row.now three) }
+    ensures goes { OnGoes result (GoesOn row.now) }
+    ensures after { OnGoes result (λ at. three < at) }
 {
-    let equal = equal_bytes(&row[three..]);
-    if equal == MOST_BYTES {
-        return Behind::Unknown;
+    let equal = equal_run(&row[three..]);
+    if equal % MOST_BYTES > MOST_PASSED {
+        return Behind::Ends;
     }
     if equal > MOST_PASSED {
-        return Behind::Ends;
+        return Behind::Unknown;
     }
     let place = behind_pairs(row, three + 3);
     if place == row.len() {
         return Behind::Ends;
     }
-    let equal = equal_bytes(&row[place..]);
-    if equal == 1 {
+    let next = equal_run(&row[place..]);
+    if next == 1 {
         return Behind::Goes(place + 1);
     }
-    if equal < MOST_BYTES {
+    if next % MOST_BYTES >= MOST_PASSED {
         Behind::Ends
     } else {
         Behind::Unknown

@@ -1,7 +1,7 @@
 //! Writing the least code of a row.
 ghost use Rattle.escp2_definitions.specs.Least.{costs, equal_at, least_row};
-ghost use Rattle.escp2_rows.specs.Literals.{IsLongest, LongestSoFar, WritesFirst};
-ghost use Rattle.std.specs.Prelude.{IfSome, length, slice_index, take, true, ℕ, ◌*◌, ◌+◌, ◌<◌, ◌≡◌, ◌≢◌, ◌≤◌};
+ghost use Rattle.escp2_rows.specs.Literals.{IsLongest, WritesFirst};
+ghost use Rattle.std.specs.Prelude.{IfSome, length, take, ◌*◌, ◌<◌, ◌≡◌, ◌≤◌};
 
 use crate::costs::{MOST_BYTES, fill_costs};
 use crate::literals::{equal_bytes, literal_end};
@@ -16,41 +16,6 @@ struct Written {
     code: usize,
 }
 
-// Whether none of sixteen costs is this much, counted from one less at each next place.
-#[inline]
-fn sixteen_miss(costs: &[u16], least: u16) -> bool
-    requires sized { 16 ≤ length costs.now }
-    requires small { (i : ℕ) → i < 16 → slice_index costs.now i ≤ 4000 }
-    ensures { result ≡ true → (i : ℕ) → i < 16 → slice_index costs.now i + i ≢ least }
-{
-    let mut hit = false;
-    for i in 0..16 {
-        hit |= costs[i] + i as u16 == least;
-    }
-    !hit
-}
-
-// How many bytes a literal at the beginning of a row may have that costs least: none with more does. By sixteens.
-#[inline]
-fn literal_most(row: &[u8], table: &[u16]) -> usize
-    requires some { 0 < length row.now }
-    requires most { length row.now ≤ 1024 }
-    requires table { table.now ≡ costs row.now }
-    requires alone { equal_at row.now ≡ 1 }
-    ensures { LongestSoFar row.now result }
-{
-    // A literal of n bytes costs n + 1 + table[n]; the first of the sixteen has count - 15 bytes.
-    let least = table[0] + 14;
-    let mut count = row.len().min(MOST_BYTES);
-    'sixteens: while count > 15
-        && usize::from(least) >= count
-        && sixteen_miss(&table[count - 15..], least - count as u16)
-    {
-        count -= 16;
-    }
-    count
-}
-
 // How many bytes the longest literal at the beginning of a row has that costs least, where no run does.
 #[inline]
 fn literal_bytes(row: &[u8], table: &[u16]) -> usize
@@ -61,7 +26,7 @@ fn literal_bytes(row: &[u8], table: &[u16]) -> usize
     ensures { IsLongest row.now result }
 {
     let least = usize::from(table[0]);
-    let mut count = literal_most(row, table);
+    let mut count = row.len().min(MOST_BYTES);
     'counts: while count + 1 + usize::from(table[count]) > least {
         count -= count + 1 + usize::from(table[count]) - least;
     }

@@ -1,17 +1,24 @@
-use Rattle.std.proofs.Common.{◌≡◌, ◌==◌, drop, arith, ap, sym, ◌∙◌}
+use Rattle.std.proofs.Common.{◌≡◌, drop, arith, ap}
 use Rattle.std.proofs.lemmas.List.{take_rest}
 use Rattle.escp2_definitions.specs.Least.{equal_at}
-use Rattle.escp2_rows.proofs.Triples.{is_two, pairs_begin, pairs_more, two_fit}
+use Rattle.escp2_laws.proofs.Fewest.{equal_is}
+use Rattle.escp2_rows.proofs.Passing.{level_begin, level_more, run, run_within}
 use Rattle.escp2_rows.proofs.literals.behind_pairs.Goals as goal
 
-two : (c : goal.In-pairs) → equal_at (drop c.pairs.at c.args.row.now) ≡ 2
-two c = is_two _ (ap (λ bs. equal_at bs == 2) (sym (take_rest c.args.row.now c.pairs.at)) ∙ sym c.is_pair.ensures ∙ c.pairs-test.true)
+two : (c : goal.In-pairs) → run c.args.row.now c.pairs.at ≡ 2
+two c =
+    omega (
+      arith,
+      c.is_pair.ensures c.pairs-test.true,
+      ap equal_at (take_rest c.args.row.now c.pairs.at),
+      equal_is (drop c.pairs.at c.args.row.now),
+    )
 
 pub pairs-init : goal.pairs-init
-pairs-init c = record { within = c.requires; pairs = pairs_begin _ _ c.requires }
+pairs-init c = level_begin _ _ c.requires
 
 pub pairs-smaller : goal.pairs-smaller
-pairs-smaller c = omega (arith, two_fit c.args.row.now c.pairs.at (two c))
+pairs-smaller c = omega (arith, two c, run_within c.args.row.now c.pairs.at c.pairs.invariant.within)
 
 pub pairs-preserved : goal.pairs-preserved
-pairs-preserved c = record { within = two_fit _ _ (two c); pairs = pairs_more c.pairs.invariant.pairs (two c) }
+pairs-preserved c = level_more c.pairs.invariant (two c)

@@ -1,12 +1,9 @@
-use Rattle.std.proofs.Common.{◌-◌, ◌≤◌, length}
-use Rattle.escp2_rows.specs.Passing.{ArePairs}
+use Rattle.std.proofs.Common.{◌-◌, length}
+use Rattle.escp2_rows.specs.Passing.{IsLevel}
 use Rattle.escp2_rows.proofs.literals.behind_pairs.Given as goal
 
 abbrev pub invariant-pairs : goal.invariant-pairs
-invariant-pairs l = record {
-  within : l.at ≤ length l.row;
-  pairs : ArePairs l.row l.from l.at;
-}
+invariant-pairs l = IsLevel l.row l.from l.at
 
 abbrev pub decreases-pairs : goal.decreases-pairs
 decreases-pairs l = length l.row - l.at
