@@ -42,6 +42,7 @@ pub all_ran : (p : Printer) (k : Table) (sent : List (List Stream)) (jobs : List
 all_ran p k sent jobs out meters done answer.Done are prints fine sums = (record { jobs = jobs; are = are; prints = prints }, sums)
 all_ran p k sent jobs out meters done (answer.Failed count) are prints fine sums = (record { jobs = jobs; are = are; prints = prints }, sums)
 all_ran p k sent jobs out meters done answer.Memory are prints fine sums = inr (record { jobs = jobs; are = are; prints = prints }, fine, sums)
+all_ran p k sent jobs out meters done other are prints fine sums = absurd sums
 
 -- a write failed
 pub not_all_ran : (p : Printer) (k : Table) (sent : List (List Stream)) (jobs rest : List SpoolJob) (out : Outside) (meters : Meters)
@@ -50,6 +51,7 @@ pub not_all_ran : (p : Printer) (k : Table) (sent : List (List Stream)) (jobs re
     → PrintingOutcome p k sent out meters done a
 not_all_ran p k sent jobs rest out meters done (answer.Write sender job page) are prints risen stops =
     (risen, record { jobs = jobs; others = rest; are = are; prints = prints }, stops)
+not_all_ran p k sent jobs rest out meters done other are prints risen stops = absurd stops
 
 -- a word is refused
 pub refused_word : (words : List (List ℕ)) (o : SpoolOutside) (done : List Ran) (fault : SpoolFault) → Err fault ≡ spool_meaning words
@@ -125,10 +127,8 @@ pub came_to : (r : Result (Unit {0}) SpoolAnswer) (p : Printer) (k : Table) (sen
     → PrintingOutcome p k sent out meters done a
 came_to (Ok u) p k sent jobs out meters done a count are every count_is fine sums stop write risen rest all =
     all_ran p k sent jobs out meters done a (all (every ∙ count_is)) are.are fine sums
-all_ran p k sent jobs out meters done other are prints fine sums = absurd sums
 came_to (Err stop') p k sent jobs out meters done a count are every count_is fine sums stop write risen rest all =
     not_all_ran p k sent jobs rest.0 out meters done a rest.1 are.are risen (subst (WriteStopped done) (sym stop) write)
-not_all_ran p k sent jobs rest out meters done other are prints risen stops = absurd stops
 
 -- all jobs that were printed have a plain status, where no write failed
 pub plain_jobs : (r : Result (Unit {0}) SpoolAnswer) {p : Printer} {k : Table} {jobs : List SpoolJob} {done : List Ran} {x y : Between}

@@ -195,6 +195,7 @@ module _ (words : List (List ℕ)) (o : SpoolOutside) (done : List Ran) (valid :
       let jobs = jobs_valid Q sent h.0.jobs (record { sender = 0; number = 0; stream = [] }) h.0.are all' in
       let none = none_counted p k h.0.jobs done _ _ h.0.prints jobs (fine p k sent same kernel (sym streams) h.0 jobs h.1.0) in
       absurd (omega (arith, h.1.1, h.1.2))
+  by_printing p k sent other same kernel are h = absurd h
 
   pub valid_run : (a : SpoolAnswer) → SpoolOutcome words o done a → IsFine a
   valid_run a outcome =
@@ -205,7 +206,6 @@ module _ (words : List (List ℕ)) (o : SpoolOutside) (done : List Ran) (valid :
       (λ (h : WithFiles words valid.request o done a).
       let same : Ok h.p ≡ Ok valid.p = one_profile o.shelf.told files (profile_named words) (Ok h.p) (Ok valid.p) is h.profile valid.profile in
       by_printing h.p _ h.sent a (cc) refl h.files h.printed)) by_request
-  by_printing p k sent other same kernel are h = absurd h
 
 -- where the meters have room for all streams, no job goes past a cap
 roomy_jobs : {done : List Ran} (o : SpoolOutside) (q p : Printer) (l k : Table) (streams : List Stream) (sent : List (List Stream))
