@@ -1,3 +1,2 @@
 -- Proofs for the command `list`.
-pub mod ByStatus
 pub mod Promised

@@ -1,3 +1,2 @@
 -- Proofs for the command `dots`.
-pub mod ByStatus
 pub mod Promised

@@ -3,6 +3,5 @@ pub mod Counting
 pub mod StreamSteps
 pub mod Ends
 pub mod Writing
-pub mod ByStatus
-pub mod One
+pub mod ByStream
 pub mod Promised

@@ -1,10 +1,8 @@
 -- Proofs for a whole run.
 pub mod Statuses
 pub mod Asked
-pub mod AtWork
 pub mod Nothing
 pub mod WholeJobs
-pub mod Worked
 pub mod Performed
 pub mod Promised
 pub mod AllPromised

@@ -38,9 +38,3 @@ pub record Outsides : Type 0 where
 -- nothing of the input was used, and nothing was written
 abbrev pub Untouched : Outsides → Type 0
 Untouched o = Keeps o.input.before o.input.now × Keeps o.out.before o.out.now
-
--- nothing outside failed
-pub record NothingFailed (o : Outsides) : Type 0 where
-  pub shelf : HasFailed o.shelf → ⊥
-  pub input : IsCalm o.input
-  pub out : IsCalm o.out

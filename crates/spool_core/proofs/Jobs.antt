@@ -28,9 +28,8 @@ one_job_more p k (x ∷ jobs) job (other ∷ done) ran a m b are one = (are.0, a
 
 pub as_many : (p : Printer) (k : Table) (jobs : List SpoolJob) (done : List Ran) (a b : Between) → PrintsJobs p k jobs done a b → length done ≡ length jobs
 as_many p k [] [] a b are = refl
-as_many p k [] (ran ∷ done) a b are = absurd are
-as_many p k (job ∷ jobs) [] a b are = absurd are
 as_many p k (job ∷ jobs) (ran ∷ done) a b are = let more = as_many p k jobs done are.0 b are.2 in omega arith
+as_many p k jobs done a b are = absurd are
 
 -- a source that does not fail is no reason to stop
 plain_answer : (p : Printer) (k : Table) (bytes : Stream) (pages : ℕ) (a : Answer) (x y : Between) → PrintsStream p k bytes pages a x y
@@ -41,9 +40,7 @@ plain_answer p k bytes pages answer.Read x y prints fine = absurd (prints.calm p
 plain_answer p k bytes pages (answer.Write page) x y prints fine = absurd (fine refl)
 plain_answer p k bytes pages (answer.OverCap page total dots cap) x y prints fine = inr (inr (inl refl))
 plain_answer p k bytes pages answer.Memory x y prints fine = inr (inr (inr refl))
-plain_answer p k bytes pages (answer.Usage fault) x y prints fine = absurd prints.printed.0
-plain_answer p k bytes pages (answer.Profile line cause) x y prints fine = absurd prints.printed.0
-plain_answer p k bytes pages (answer.Job offset cause) x y prints fine = absurd prints.printed.0
+plain_answer p k bytes pages other x y prints fine = absurd prints.printed.0
 
 plain_one : (p : Printer) (k : Table) (job : SpoolJob) (ran : Ran) (a b : Between) → PrintsJob p k job ran a b → ran.status ≢ 5 → HasPlainStatus ran
 plain_one p k job ran a b prints fine =
@@ -56,12 +53,11 @@ plain_one p k job ran a b prints fine =
 pub plain_all : (p : Printer) (k : Table) (jobs : List SpoolJob) (done : List Ran) (a b : Between) → PrintsJobs p k jobs done a b
     → All (λ ran. ran.status ≢ 5) done → All HasPlainStatus done
 plain_all p k [] [] a b are fine = All-nil HasPlainStatus
-plain_all p k [] (ran ∷ done) a b are fine = absurd are
-plain_all p k (job ∷ jobs) [] a b are fine = absurd are
 plain_all p k (job ∷ jobs) (ran ∷ done) a b are fine =
     let P : Ran → Type 0 = λ r. r.status ≢ 5 in
     All-cons HasPlainStatus ran done (plain_one p k job ran a are.0 are.1 (All-head P ran done fine))
     (plain_all p k jobs done are.0 b are.2 (All-tail P ran done fine))
+plain_all p k jobs done a b are fine = absurd are
 
 -- a write that fails stops in the page after those that were written
 pub write_stopped : (p : Printer) (k : Table) (bytes : Stream) (pages number : ℕ) (x y : Between)
@@ -123,11 +119,4 @@ more_done {p} {k} {x} {m} {y} jobs next job done now pages status a jobs_are don
 -- an answer other than a failed write
 pub not_write : (a : Answer) → ((page : ℕ) → a ≡ answer.Write page → ⊥) → status_of a ≢ 5
 not_write (answer.Write page) other five = other page refl
-not_write answer.Done other five = absurd (omega arith)
-not_write (answer.Input page line cause) other five = absurd (omega arith)
-not_write answer.Read other five = absurd (omega arith)
-not_write (answer.OverCap page total dots cap) other five = absurd (omega arith)
-not_write answer.Memory other five = absurd (omega arith)
-not_write (answer.Usage fault) other five = absurd (omega arith)
-not_write (answer.Profile line cause) other five = absurd (omega arith)
-not_write (answer.Job offset cause) other five = absurd (omega arith)
+not_write a other five = absurd (omega arith)

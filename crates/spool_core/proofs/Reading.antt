@@ -21,18 +21,16 @@ bytes_in_push xs x = let push = bytes_in-append xs (x ∷ []) in omega arith
 pub has_streams-append : (told : Option (List NamedText)) (taken : ℕ) (xs ss ys zs : List (List ℕ)) → HasStreams told taken xs ss
     → HasStreams told (taken + bytes_in ss) ys zs → HasStreams told taken (xs ++ ys) (ss ++ zs)
 has_streams-append told taken [] [] ys zs h more = subst (λ n. HasStreams told n ys zs) (omega arith) more
-has_streams-append told taken [] (s ∷ ss) ys zs h more = absurd h
-has_streams-append told taken (x ∷ xs) [] ys zs h more = absurd h
 has_streams-append told taken (x ∷ xs) (s ∷ ss) ys zs h more =
     let there : taken + (length s + bytes_in ss) ≡ taken + length s + bytes_in ss = omega arith in
     (h.0, has_streams-append told (taken + length s) xs ss ys zs h.1 (subst (λ n. HasStreams told n ys zs) there more))
+has_streams-append told taken xs ss ys zs h more = absurd h
 
 pub has_streams_length : (told : Option (List NamedText)) (taken : ℕ) (xs ss : List (List ℕ)) → HasStreams told taken xs ss → length ss ≡ length xs
 has_streams_length told taken [] [] h = refl
-has_streams_length told taken [] (s ∷ ss) h = absurd h
-has_streams_length told taken (x ∷ xs) [] h = absurd h
 has_streams_length told taken (x ∷ xs) (s ∷ ss) h =
     let more = has_streams_length told (taken + length s) xs ss h.1 in omega arith
+has_streams_length told taken xs ss h = absurd h
 
 -- one more file of a sender
 pub one_more : (told : Option (List NamedText)) (before taken : ℕ) (names : List (List ℕ)) (i j : ℕ) (list : List (List ℕ)) (name stream : List ℕ)
@@ -85,13 +83,8 @@ stops_at_name shelf last before taken names i j sender number list name (answer.
   (next_name shelf.told before names i n list name has (subst (λ m. slice_get names m ≡ Some name) same got) (stops.1 ∙ counted)).0,
   rose_later later (subst (λ n. Rose last.faults_before n) now stops.2),
 )
-stops_at_name shelf last before taken names i j sender number list name answer.Read told later now has is got same counted stops = absurd stops
 stops_at_name shelf last before taken names i j sender number list name answer.Memory told later now has is got same counted stops = tt
-stops_at_name shelf last before taken names i j sender number list name answer.Done told later now has is got same counted stops = absurd stops
-stops_at_name shelf last before taken names i j sender number list name (answer.Usage fault) told later now has is got same counted stops = absurd stops
-stops_at_name shelf last before taken names i j sender number list name (answer.Profile line cause) told later now has is got same counted stops = absurd stops
-stops_at_name shelf last before taken names i j sender number list name (answer.Write s n page) told later now has is got same counted stops = absurd stops
-stops_at_name shelf last before taken names i j sender number list name (answer.Failed count) told later now has is got same counted stops = absurd stops
+stops_at_name shelf last before taken names i j sender number list name other told later now has is got same counted stops = absurd stops
 
 -- What was read of the first `i` senders.
 pub record ReadSoFar (told : Option (List NamedText)) (names lists : List (List (List ℕ))) (i taken : ℕ) : Type 0 where
@@ -179,13 +172,8 @@ stops_at_sender shelf last names lists i j taken sender (answer.ReadFile s n) to
       (next_file shelf.told names lists i j taken s n sender lt same stops.0 counted so_far place).0,
       rose_later later (subst (λ n. Rose last.faults_before n) now stops.2),
     )
-stops_at_sender shelf last names lists i j taken sender answer.Read told later now lt same counted so_far stops = absurd stops
 stops_at_sender shelf last names lists i j taken sender answer.Memory told later now lt same counted so_far stops = tt
-stops_at_sender shelf last names lists i j taken sender answer.Done told later now lt same counted so_far stops = absurd stops
-stops_at_sender shelf last names lists i j taken sender (answer.Usage fault) told later now lt same counted so_far stops = absurd stops
-stops_at_sender shelf last names lists i j taken sender (answer.Profile line cause) told later now lt same counted so_far stops = absurd stops
-stops_at_sender shelf last names lists i j taken sender (answer.Write s n page) told later now lt same counted so_far stops = absurd stops
-stops_at_sender shelf last names lists i j taken sender (answer.Failed count) told later now lt same counted so_far stops = absurd stops
+stops_at_sender shelf last names lists i j taken sender other told later now lt same counted so_far stops = absurd stops
 
 -- the files are read after the shelf was asked for something else
 pub later_files : (names : List (List (List ℕ))) (shelf last : Texts) (a : SpoolAnswer) → last.told ≡ shelf.told
@@ -193,10 +181,5 @@ pub later_files : (names : List (List (List ℕ))) (shelf last : Texts) (a : Spo
 later_files names shelf last (answer.File s n cause) told later now stops = subst (λ t. IsRefusedFile t names s n cause) told stops
 later_files names shelf last (answer.ReadFile s n) told later now stops =
     (subst (λ t. IsNextFile t names s n) told stops.0, rose_later later (subst (λ n. Rose last.faults_before n) now stops.1))
-later_files names shelf last answer.Read told later now stops = absurd stops
 later_files names shelf last answer.Memory told later now stops = tt
-later_files names shelf last answer.Done told later now stops = absurd stops
-later_files names shelf last (answer.Usage fault) told later now stops = absurd stops
-later_files names shelf last (answer.Profile line cause) told later now stops = absurd stops
-later_files names shelf last (answer.Write s n page) told later now stops = absurd stops
-later_files names shelf last (answer.Failed count) told later now stops = absurd stops
+later_files names shelf last other told later now stops = absurd stops

@@ -7,10 +7,9 @@ use Rattle.driver_answer.specs.declared.answer.Answer.{Answer}
 use Rattle.driver_answer.specs.declared.answer.Answer.TheVariants as print
 use Rattle.driver_core.specs.Printing.Pages.{IsStream}
 use Rattle.driver_core.specs.Trying.Summary.{dots_of_pages}
-use Rattle.driver_core.proofs.Printing.ByStatus.{never_over}
+use Rattle.driver_core.proofs.Printing.ByStream.{never_over}
 use Rattle.ink_meter.specs.Accounts.{Account, HasRoom, added, all_inks}
 use Rattle.ink_meter.specs.Counts.{Admitted, counted, page_dots}
-use Rattle.page_definitions.specs.Ways.Way.{Woven}
 use Rattle.printer_definitions.specs.Printer.{Printer}
 use Rattle.pwg_definitions.specs.Stream.{Page, stream}
 use Rattle.pwg_definitions.specs.Stream.{Stream as Pages}
@@ -19,7 +18,7 @@ use Rattle.separation_definitions.specs.Windows.{wanted_by}
 use Rattle.spool_queue.proofs.Sums.{of_jobs, of_streams}
 use Rattle.spool_queue.specs.Jobs.{Stream}
 use Rattle.spool_queue.specs.declared.job.SpoolJob.{SpoolJob}
-use Rattle.spool_core.specs.Printed.{Between, PrintsJob, PrintsJobs, PrintsStream, meters_from, out_from}
+use Rattle.spool_core.specs.Printed.{Between, PrintsJob, PrintsJobs, PrintsStream}
 use Rattle.spool_core.specs.Promises.{HasRoomFor, IsValidStream, dots_of_streams, stream_dots}
 use Rattle.spool_core.specs.declared.report.Ran.{Ran}
 
@@ -51,14 +50,7 @@ not_three p k bytes pages (print.Input page line why) x y valid prints three =
     let ended : IsStream p (Some bytes) prints.printed.0.0.pages (Fault page line why) =
     subst (λ (b : Option (List ℕ)). IsStream p b prints.printed.0.0.pages (Fault page line why)) prints.stream_is prints.printed.0.0.told in
     let never : Done ≡ Fault page line why = ap (λ (s : Pages). s.end) (sym valid.1 ∙ ended) in absurd cc
-not_three p k bytes pages print.Done x y valid prints three = absurd (omega arith)
-not_three p k bytes pages print.Read x y valid prints three = absurd (omega arith)
-not_three p k bytes pages (print.Write page) x y valid prints three = absurd (omega arith)
-not_three p k bytes pages (print.OverCap page total dots cap) x y valid prints three = absurd (omega arith)
-not_three p k bytes pages print.Memory x y valid prints three = absurd (omega arith)
-not_three p k bytes pages (print.Usage fault) x y valid prints three = absurd (omega arith)
-not_three p k bytes pages (print.Profile line why) x y valid prints three = absurd (omega arith)
-not_three p k bytes pages (print.Job offset why) x y valid prints three = absurd (omega arith)
+not_three p k bytes pages other x y valid prints three = absurd (omega arith)
 
 -- a job of a valid stream for which the meters have room is printed, where no write failed and memory sufficed
 job_fits : (p : Printer) (k : Table) (job : SpoolJob) (ran : Ran) (a b : Between) (more : ℕ) → PrintsJob p k job ran a b
@@ -82,23 +74,18 @@ job_fits p k job ran a b more one valid five seven room =
     by_answer (print.OverCap page total dots cap) prints is fits =
         let admitted : Admitted p k valid.0 a.accounts =
         subst (λ pages. Admitted p k pages a.accounts) (ap (λ (s : Pages). s.pages) valid.1) fits.0 in
-        absurd (never_over Woven p k prints.input (out_from a b) (meters_from a b) job.stream valid.0 Done page total dots cap
-        prints.printed.0 prints.stream_is valid.1 admitted)
+        absurd (never_over prints.printed.0 prints.stream_is valid.1 admitted)
     by_answer (print.Input page line why) prints is fits =
         absurd (not_three p k job.stream ran.pages (print.Input page line why) a b valid prints refl)
     by_answer print.Read prints is fits = absurd (prints.calm prints.printed.0.0)
     by_answer (print.Write page) prints is fits = absurd (five is)
     by_answer print.Memory prints is fits = absurd (seven is)
-    by_answer (print.Usage fault) prints is fits = absurd prints.printed.0
-    by_answer (print.Profile line why) prints is fits = absurd prints.printed.0
-    by_answer (print.Job offset why) prints is fits = absurd prints.printed.0
+    by_answer other prints is fits = absurd prints.printed.0
 
 pub none_over : (p : Printer) (k : Table) (jobs : List SpoolJob) (done : List Ran) (a b : Between) → PrintsJobs p k jobs done a b
     → All (λ (x : SpoolJob). IsValidStream p x.stream) jobs → All (λ (ran : Ran). (ran.status ≢ 5) × (ran.status ≢ 7)) done
     → All (HasRoomFor (of_jobs (stream_dots p k) jobs)) a.accounts → All (λ (ran : Ran). ran.status ≢ 6) done
 none_over p k [] [] a b are valid plain room = All-nil (λ (ran : Ran). ran.status ≢ 6)
-none_over p k [] (ran ∷ done) a b are valid plain room = absurd are
-none_over p k (job ∷ jobs) [] a b are valid plain room = absurd are
 none_over p k (job ∷ jobs) (ran ∷ done) a b are valid plain room =
     let P : SpoolJob → Type 0 = λ x. IsValidStream p x.stream in
     let Q : Ran → Type 0 = λ r. (r.status ≢ 5) × (r.status ≢ 7) in
@@ -106,3 +93,4 @@ none_over p k (job ∷ jobs) (ran ∷ done) a b are valid plain room =
     let one = job_fits p k job ran a are.0 (of_jobs (stream_dots p k) jobs) are.1 (All-head P job jobs valid) fine.0 fine.1 room in
     All-cons (λ (r : Ran). r.status ≢ 6) ran done (λ six. omega (arith, one.0))
     (none_over p k jobs done are.0 b are.2 (All-tail P job jobs valid) (All-tail Q ran done plain) one.1)
+none_over p k jobs done a b are valid plain room = absurd are

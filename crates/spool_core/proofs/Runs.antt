@@ -42,12 +42,7 @@ pub all_ran : (p : Printer) (k : Table) (sent : List (List Stream)) (jobs : List
 all_ran p k sent jobs out meters done answer.Done are prints fine sums = (record { jobs = jobs; are = are; prints = prints }, sums)
 all_ran p k sent jobs out meters done (answer.Failed count) are prints fine sums = (record { jobs = jobs; are = are; prints = prints }, sums)
 all_ran p k sent jobs out meters done answer.Memory are prints fine sums = inr (record { jobs = jobs; are = are; prints = prints }, fine, sums)
-all_ran p k sent jobs out meters done (answer.Usage fault) are prints fine sums = absurd sums
-all_ran p k sent jobs out meters done (answer.Profile line cause) are prints fine sums = absurd sums
-all_ran p k sent jobs out meters done (answer.File sender job cause) are prints fine sums = absurd sums
-all_ran p k sent jobs out meters done answer.Read are prints fine sums = absurd sums
-all_ran p k sent jobs out meters done (answer.ReadFile sender job) are prints fine sums = absurd sums
-all_ran p k sent jobs out meters done (answer.Write sender job page) are prints fine sums = absurd sums
+all_ran p k sent jobs out meters done other are prints fine sums = absurd sums
 
 -- a write failed
 pub not_all_ran : (p : Printer) (k : Table) (sent : List (List Stream)) (jobs rest : List SpoolJob) (out : Outside) (meters : Meters)
@@ -56,14 +51,7 @@ pub not_all_ran : (p : Printer) (k : Table) (sent : List (List Stream)) (jobs re
     → PrintingOutcome p k sent out meters done a
 not_all_ran p k sent jobs rest out meters done (answer.Write sender job page) are prints risen stops =
     (risen, record { jobs = jobs; others = rest; are = are; prints = prints }, stops)
-not_all_ran p k sent jobs rest out meters done answer.Done are prints risen stops = absurd stops
-not_all_ran p k sent jobs rest out meters done (answer.Failed count) are prints risen stops = absurd stops
-not_all_ran p k sent jobs rest out meters done answer.Memory are prints risen stops = absurd stops
-not_all_ran p k sent jobs rest out meters done (answer.Usage fault) are prints risen stops = absurd stops
-not_all_ran p k sent jobs rest out meters done (answer.Profile line cause) are prints risen stops = absurd stops
-not_all_ran p k sent jobs rest out meters done (answer.File sender job cause) are prints risen stops = absurd stops
-not_all_ran p k sent jobs rest out meters done answer.Read are prints risen stops = absurd stops
-not_all_ran p k sent jobs rest out meters done (answer.ReadFile sender job) are prints risen stops = absurd stops
+not_all_ran p k sent jobs rest out meters done other are prints risen stops = absurd stops
 
 -- a word is refused
 pub refused_word : (words : List (List ℕ)) (o : SpoolOutside) (done : List Ran) (fault : SpoolFault) → Err fault ≡ spool_meaning words
@@ -107,8 +95,6 @@ no_files words request o done p a means is stopped none =
 as_few : (sent names : List (List (List ℕ))) → map length sent ≡ map length names → AllByRecursion AreNames names
     → (length sent ≡ length names) × All (λ list. 1 ≤ length list) sent × All (λ list. length list ≤ 64) sent
 as_few [] [] e are = (refl, All-nil (λ list. 1 ≤ length list), All-nil (λ list. length list ≤ 64))
-as_few [] (n ∷ names) e are = absurd cc
-as_few (s ∷ sent) [] e are = absurd cc
 as_few (s ∷ sent) (n ∷ names) e are =
     let here : length s ≡ length n = cc in
     let others : map length sent ≡ map length names = cc in
@@ -119,6 +105,7 @@ as_few (s ∷ sent) (n ∷ names) e are =
       All-cons (λ list. 1 ≤ length list) s sent (omega arith) more.1,
       All-cons (λ list. length list ≤ 64) s sent (omega arith) more.2,
     )
+as_few sent names e are = absurd cc
 
 pub are_few : (words : List (List ℕ)) (sent : List (List (List ℕ))) (request : SpoolRequest) → map length sent ≡ map length (names_of words)
     → IsWithinBounds words request → AreFew sent

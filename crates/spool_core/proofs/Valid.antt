@@ -56,13 +56,12 @@ module _ (told : Option (List NamedText)) (files : List NamedText) (is : told �
   same_streams : (taken used : ℕ) (names ss ts : List (List ℕ)) → HasStreams told taken names ss → HasStreams told used names ts → ss ≡ ts
   same_streams taken used [] [] [] h g = refl
   same_streams taken used [] [] (t ∷ ts) h g = absurd g
-  same_streams taken used [] (s ∷ ss) ts h g = absurd h
-  same_streams taken used (n ∷ names) [] ts h g = absurd h
   same_streams taken used (n ∷ names) (s ∷ ss) [] h g = absurd g
   same_streams taken used (n ∷ names) (s ∷ ss) (t ∷ ts) h g =
       let one : s ≡ t = one_stream taken used n s t h.0 g.0 in
       let others : ss ≡ ts = same_streams (taken + length s) (used + length t) names ss ts h.1 g.1 in
       ap (λ x. x ∷ ss) one ∙ ap (λ xs. t ∷ xs) others
+  same_streams taken used names ss ts h g = absurd h
 
   -- the file after some that were read
   next_file : (taken : ℕ) (xs ys ss ts : List (List ℕ)) (name : List ℕ) → HasStreams told taken (xs ++ name ∷ ys) ss
@@ -147,8 +146,6 @@ not_counted s three six = rw (ne_eqb s 3 three, ne_eqb s 6 six)
 none_counted : (p : Printer) (k : Table) (jobs : List SpoolJob) (done : List Ran) (a b : Between) → PrintsJobs p k jobs done a b
     → All (λ (x : SpoolJob). IsValidStream p x.stream) jobs → All (λ (ran : Ran). ran.status ≢ 6) done → count_by is_refused done ≡ 0
 none_counted p k [] [] a b are valid fine = refl
-none_counted p k [] (ran ∷ done) a b are valid fine = absurd are
-none_counted p k (job ∷ jobs) [] a b are valid fine = absurd are
 none_counted p k (job ∷ jobs) (ran ∷ done) a b are valid fine =
     let P : SpoolJob → Type 0 = λ x. IsValidStream p x.stream in
     let Q : Ran → Type 0 = λ r. r.status ≢ 6 in
@@ -157,6 +154,7 @@ none_counted p k (job ∷ jobs) (ran ∷ done) a b are valid fine =
     let no : is_refused ran ≡ false = not_counted ran.status three (All-head Q ran done fine) in
     let more = none_counted p k jobs done are.0 b are.2 (All-tail P job jobs valid) (All-tail Q ran done fine) in
     sum_by-cons (λ (r : Ran). cond (is_refused r) 1 0) ran done ∙ ap (λ (t : Bool). cond t 1 0 + count_by is_refused done) no ∙ omega arith
+none_counted p k jobs done a b are valid fine = absurd are
 
 -- ---- the run
 
@@ -174,23 +172,13 @@ module _ (words : List (List ℕ)) (o : SpoolOutside) (done : List Ran) (valid :
       let never = one_profile o.shelf.told files (profile_named words) _ _ is h valid.profile in absurd cc
   by_profile answer.Read h = absurd (calm h.0)
   by_profile answer.Memory h = inr refl
-  by_profile answer.Done h = absurd h
-  by_profile (answer.Usage fault) h = absurd h
-  by_profile (answer.File sender job why) h = absurd h
-  by_profile (answer.ReadFile sender job) h = absurd h
-  by_profile (answer.Write sender job page) h = absurd h
-  by_profile (answer.Failed count) h = absurd h
+  by_profile other h = absurd h
 
   by_files : (a : SpoolAnswer) → FilesOutcome (names_of words) o.shelf a → IsFine a
   by_files (answer.File sender job why) h = absurd (none_refused o.shelf.told files is (names_of words) valid.sent sender job why valid.files h)
-  by_files answer.Read h = absurd h
   by_files (answer.ReadFile sender job) h = absurd (calm h.1)
   by_files answer.Memory h = inr refl
-  by_files answer.Done h = absurd h
-  by_files (answer.Usage fault) h = absurd h
-  by_files (answer.Profile line why) h = absurd h
-  by_files (answer.Write sender job page) h = absurd h
-  by_files (answer.Failed count) h = absurd h
+  by_files other h = absurd h
 
   by_printing : (p : Printer) (k : Table) (sent : List (List Stream)) (a : SpoolAnswer) → p ≡ valid.p
       → k ≡ table_of valid.request.kernel → AreFiles o.shelf.told (names_of words) sent → PrintingOutcome p k sent o.out o.meters done a → IsFine a
@@ -207,11 +195,7 @@ module _ (words : List (List ℕ)) (o : SpoolOutside) (done : List Ran) (valid :
       let jobs = jobs_valid Q sent h.0.jobs (record { sender = 0; number = 0; stream = [] }) h.0.are all' in
       let none = none_counted p k h.0.jobs done _ _ h.0.prints jobs (fine p k sent same kernel (sym streams) h.0 jobs h.1.0) in
       absurd (omega (arith, h.1.1, h.1.2))
-  by_printing p k sent (answer.Usage fault) same kernel are h = absurd h
-  by_printing p k sent (answer.Profile line why) same kernel are h = absurd h
-  by_printing p k sent (answer.File sender job why) same kernel are h = absurd h
-  by_printing p k sent answer.Read same kernel are h = absurd h
-  by_printing p k sent (answer.ReadFile sender job) same kernel are h = absurd h
+  by_printing p k sent other same kernel are h = absurd h
 
   pub valid_run : (a : SpoolAnswer) → SpoolOutcome words o done a → IsFine a
   valid_run a outcome =

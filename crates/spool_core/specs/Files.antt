@@ -37,10 +37,9 @@ pub record IsFile (told : Option (List NamedText)) (taken : ℕ) (name stream : 
 -- These are the streams of the files of these names, read one after another; files of so many bytes were read before.
 abbrev pub HasStreams : Option (List NamedText) → ℕ → List (List ℕ) → List (List ℕ) → Type 0
 HasStreams told taken [] [] = Unit {0}
-HasStreams told taken [] (stream ∷ streams) = ⊥
-HasStreams told taken (name ∷ names) [] = ⊥
 HasStreams told taken (name ∷ names) (stream ∷ streams) =
     IsFile told taken name stream × HasStreams told (taken + length stream) names streams
+HasStreams told taken names streams = ⊥
 
 -- These are the streams of all senders, by the names of their files.
 pub record AreFiles (told : Option (List NamedText)) (names sent : List (List (List ℕ))) : Type 0 where

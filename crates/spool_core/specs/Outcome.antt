@@ -81,11 +81,7 @@ PrintingOutcome p k sent out meters done answer.Memory =
     PrintsNone out meters done
     ⊎ (PrintsEvery p k sent done (at_call out meters) (at_return out meters) × All (λ ran. ran.status ≢ 5) done
     × SumsUp done answer.Memory)
-PrintingOutcome p k sent out meters done (answer.Usage fault) = ⊥
-PrintingOutcome p k sent out meters done (answer.Profile line cause) = ⊥
-PrintingOutcome p k sent out meters done (answer.File sender job cause) = ⊥
-PrintingOutcome p k sent out meters done answer.Read = ⊥
-PrintingOutcome p k sent out meters done (answer.ReadFile sender job) = ⊥
+PrintingOutcome p k sent out meters done other = ⊥
 
 -- why there is no profile of this name, and the answer
 abbrev pub ProfileOutcome : List ℕ → Texts → SpoolAnswer → Type 0

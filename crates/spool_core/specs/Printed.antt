@@ -47,9 +47,8 @@ pub record PrintsJob (p : Printer) (k : Table) (job : SpoolJob) (ran : Ran) (a b
 -- The jobs were printed one after another, each where the one before it had left the output and the meters.
 abbrev pub PrintsJobs : Printer → Table → List SpoolJob → List Ran → Between → Between → Type 0
 PrintsJobs p k [] [] a b = a ≡ b
-PrintsJobs p k [] (ran ∷ done) a b = ⊥
-PrintsJobs p k (job ∷ jobs) [] a b = ⊥
 PrintsJobs p k (job ∷ jobs) (ran ∷ done) a b = (m : Between) × PrintsJob p k job ran a m × PrintsJobs p k jobs done m b
+PrintsJobs p k jobs done a b = ⊥
 
 -- the same as a fact with a name
 pub record AreDone (p : Printer) (k : Table) (jobs : List SpoolJob) (done : List Ran) (a b : Between) : Type 0 where

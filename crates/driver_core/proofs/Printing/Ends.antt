@@ -3,7 +3,7 @@ use Rattle.std.proofs.Common.{◌≡◌, ℕ, ◌+◌, ◌-◌, ◌*◌, inl, in
 use Rattle.std.proofs.Common.{Err, IsErrOf, IsOk, refl, sym, ◌∙◌, ap, subst, arith, append_assoc, append-nil}
 use Rattle.std.specs.List.{AllByRecursion}
 use Rattle.std.specs.Io.KnownBytes.{Appends, Consumes, IsAtEnd, Keeps}
-use Rattle.std.proofs.KnownBytes.{Appends-nil, Consumes-nil, Consumes-trans}
+use Rattle.std.proofs.KnownBytes.{Consumes-nil, Consumes-trans}
 use Rattle.diffusion_definitions.specs.Diffusion.{Table}
 use Rattle.driver_answer.specs.declared.answer.Answer.{Answer}
 use Rattle.driver_answer.specs.declared.answer.Answer.TheVariants as answer
@@ -11,8 +11,7 @@ use Rattle.dot_planes.specs.Tables.{DotTable}
 use Rattle.ink_meter.specs.Accounts.{Account, IsFirstOver, all_inks}
 use Rattle.ink_meter.specs.declared.meters.OverCap.{OverCap}
 use Rattle.page_definitions.specs.Dots.{halftone}
-use Rattle.page_definitions.specs.Ways.{CanGo, KeepTo, Way, halftone_bytes_by, most_rasters, page_bytes_by}
-use Rattle.page_definitions.specs.Printing.{Prints}
+use Rattle.page_definitions.specs.Ways.{CanGo, Way, halftone_bytes_by, most_rasters, page_bytes_by}
 use Rattle.page_laws.proofs.WaysKept.{ways-keep, ways-print}
 use Rattle.page_writer.specs.AtMost.{AppendsAtMost}
 use Rattle.ink_meter.specs.Counts.{page_dots}
@@ -42,11 +41,11 @@ use Rattle.weave_base.specs.Parts.{AppendsPart}
 use Rattle.driver_core.specs.Printing.Charging.{RefusesPage}
 use Rattle.driver_core.specs.Outside.{Meters, Outside}
 use Rattle.driver_core.specs.Printing.Pages.{BeginsStream, IsStream, TakesPages, job_bytes}
-use Rattle.driver_core.specs.Printing.Outcome.{CountsPages, PrintedOutcome, PrintsSome, PrintsTaken, stream_answer}
+use Rattle.driver_core.specs.Printing.Outcome.{CountsPages, PrintedOutcome, WritesJob, stream_answer}
 use Rattle.halftone_reader.specs.Reading.{ReadsHalftone}
 use Rattle.halftone_reader.specs.SoFar.{EndsSo}
 use Rattle.driver_core.proofs.Printing.Counting.{none_counted}
-use Rattle.driver_core.proofs.Runs.Nothing.{no_pages-print}
+use Rattle.driver_core.proofs.Runs.Nothing.{appends_kept, writes_none}
 use Rattle.driver_core.proofs.Printing.StreamSteps.{StreamRead, StreamSoFar, with_pages, pages-first}
 
 -- a printer whose head can go this way
@@ -103,15 +102,6 @@ text_ended (Some xs) (Some t) (Some ys) unread bytes uses end more end' =
 pub rose_from : (a b d : ℕ) → a ≤ b → Rose b d → Rose a d
 rose_from a b d later rose = record { rose = omega (arith, rose.rose) }
 
-pub rose_on : (a b d : ℕ) → Rose a b → b ≤ d → Rose a d
-rose_on a b d rose later = record { rose = omega (arith, rose.rose) }
-
-pub appends_kept : (a b d : Option (List ℕ)) (bytes : List ℕ) → Appends a b bytes → Keeps b d → Appends a d bytes
-appends_kept None b d bytes grown kept = tt
-appends_kept (Some x) None d bytes grown kept = absurd grown
-appends_kept (Some x) (Some y) None bytes grown kept = absurd kept
-appends_kept (Some x) (Some y) (Some z) bytes grown kept = kept ∙ grown
-
 -- ---- what pages print, and in which passes
 
 first_pages : (want : Wanted) (pages others : List Page)
@@ -128,31 +118,28 @@ read_pages want bytes pages most number is =
     first_pages want pages (pages_from want most number []).pages
     (subst P (ap (λ (s : Stream). s.pages) (is [])) (stream-pages want (bytes ++ [])))
 
--- the job of these pages prints them
-prints_of : (way : Way) (p : Printer) (k : Table) (bytes : List ℕ) (pages : List Page) (most number : ℕ)
-    → CanPrintBy way p → ((rest : List ℕ) → stream (wanted_by p) (bytes ++ rest)
-    ≡ with_pages pages (pages_from (wanted_by p) most number rest)) → Prints p k pages (job_bytes way p k pages)
-prints_of way p k bytes pages most number can is =
-    ways-print way p k pages can.can can.go (read_pages (wanted_by p) bytes pages most number is)
+-- the job of pages prints them, and keeps to the way of the head
+job_of : {way : Way} {p : Printer} {k : Table} {pages : List Page} {before now : Option (List ℕ)} → CanPrintBy way p
+    → AllByRecursion (IsPage (wanted_by p)) pages → Appends before now (job_bytes way p k pages) → WritesJob way p k pages before now
+job_of {way} {p} {k} {pages} can are writes = record {
+  writes = writes;
+  prints = ways-print way p k pages can.can can.go are;
+  passes = ways-keep way p k pages can.can can.go are;
+}
 
--- the same for the pages before the last
-first_prints : (way : Way) (p : Printer) (k : Table) (bytes : List ℕ) (pages others : List Page) (most number : ℕ)
-    → CanPrintBy way p → ((rest : List ℕ) → stream (wanted_by p) (bytes ++ rest)
-    ≡ with_pages (pages ++ others) (pages_from (wanted_by p) most number rest)) → Prints p k pages (job_bytes way p k pages)
-first_prints way p k bytes pages others most number can is = ways-print way p k pages can.can can.go
-    (first_pages (wanted_by p) pages others (read_pages (wanted_by p) bytes (pages ++ others) most number is))
+-- the job of the pages that were read so far
+job_so_far : {way : Way} {p : Printer} {k : Table} {before left held now : Option (List ℕ)} {reader : PageReader} {number : ℕ} {done : List Page}
+    → CanPrintBy way p → (so_far : StreamSoFar way p k before left held now reader number done) → WritesJob way p k done held now
+job_so_far {p = p} {done = done} can so_far = job_of can (read_pages (wanted_by p) so_far.bytes done _ _ so_far.is) so_far.written
 
--- they keep to the way of the head
-passes_of : (way : Way) (p : Printer) (k : Table) (bytes : List ℕ) (pages : List Page) (most number : ℕ)
-    → CanPrintBy way p → ((rest : List ℕ) → stream (wanted_by p) (bytes ++ rest)
-    ≡ with_pages pages (pages_from (wanted_by p) most number rest)) → KeepTo way p k pages
-passes_of way p k bytes pages most number can is =
-    ways-keep way p k pages can.can can.go (read_pages (wanted_by p) bytes pages most number is)
+module _ {way : Way} {p : Printer} {k : Table} {before left held now : Option (List ℕ)} {reader : PageReader} {number : ℕ} {done : List Page} {page : Page}
+    (can : CanPrintBy way p) (read : StreamRead way p k before left held now reader number done page) where
+  all_read : AllByRecursion (IsPage (wanted_by p)) (done ++ page ∷ [])
+  all_read = read_pages (wanted_by p) read.bytes (done ++ page ∷ []) _ _ read.is
 
--- the same for the pages before the last
-first_passes : (way : Way) (p : Printer) (k : Table) (pages others : List Page) → KeepTo way p k (pages ++ others) → KeepTo way p k pages
-first_passes way p k [] others have = tt
-first_passes way p k (page ∷ pages) others have = (have.0, first_passes way p k pages others have.1)
+  -- the job of the pages before the one that was read
+  job_before : WritesJob way p k done held now
+  job_before = job_of can (first_pages (wanted_by p) done (page ∷ []) all_read) read.written
 
 -- ---- the ends
 
@@ -170,110 +157,39 @@ taken_pages p before text left unread bytes pages most number uses is more = rec
       ∙ ap (λ (s : Stream). s.pages) (is (more.bytes ++ unread));
 }
 
--- some pages were printed, so many, and these were counted
-abbrev PrintsCounted : Way → Printer → Table → Outside → Outside → Meters → ℕ → Type 0
-PrintsCounted way p k input out meters pages =
-    (some : PrintsSome way p k input out) × CountsPages p k meters some.pages × (length some.pages ≡ pages)
-
--- no page was printed
-none_printed : (way : Way) (p : Printer) (k : Table)
-    (before left held : Option (List ℕ)) (accounts : List Account) (f0 f1 g0 g1 : ℕ) → UsesSome before left
-    → PrintsCounted way p k (record { before = before; now = left; faults_before = f0; faults_now = f1 })
-    (record { before = held; now = held; faults_before = g0; faults_now = g1 })
-    (record { before = accounts; now = accounts }) 0
-none_printed way p k before left held accounts f0 f1 g0 g1 more = (
-  record {
-    pages = [];
-    taken = record { bytes = more.bytes; taken = more.is; others = (stream (wanted_by p) more.bytes).pages; are = refl };
-    writes = Appends-nil held;
-    prints = no_pages-print way p k;
-    passes = tt;
-  },
-  none_counted p k accounts,
-  refl,
-)
-
--- the pages that were read so far were printed, and no other
-some_printed : (way : Way) (p : Printer) (k : Table)
-    (before left left' held now : Option (List ℕ)) (meters : Meters) (old new : PageReader) (number pages f0 f2 g0 g1 : ℕ)
-    → CanPrintBy way p → (so_far : StreamSoFar way p k before left held now old number) → pages + 1 ≡ number
-    → CountsPages p k meters so_far.done → UsesSome (text_of old left) (text_of new left')
-    → PrintsCounted way p k (record { before = before; now = left'; faults_before = f0; faults_now = f2 })
-    (record { before = held; now = now; faults_before = g0; faults_now = g1 }) meters pages
-some_printed way p k before left left' held now meters old new number pages f0 f2 g0 g1 can so_far next counts more = (
-  record {
-    pages = so_far.done;
-    taken = taken_pages p before (text_of old left) left' new.unread so_far.bytes so_far.done _ _ so_far.used so_far.is more;
-    writes = so_far.written;
-    prints = prints_of way p k so_far.bytes so_far.done _ _ can so_far.is;
-    passes = passes_of way p k so_far.bytes so_far.done _ _ can so_far.is;
-  },
-  counts,
-  omega (arith, next, so_far.next),
-)
-
 -- a read failed in the next page: what was taken has the pages that were read so far, and no other
-all_taken : (way : Way) (p : Printer) (k : Table) (before left left' held now : Option (List ℕ)) (old : PageReader) (number : ℕ)
-    → (so_far : StreamSoFar way p k before left held now old number)
-    → TakesNoPage (wanted_by p) (page_of old) (text_of old left) left' → TakesAllPages (wanted_by p) before left' so_far.done
-all_taken way p k before left left' held now old number so_far none =
+all_taken : {way : Way} {p : Printer} {k : Table} {before left held now : Option (List ℕ)} (left' : Option (List ℕ)) {old : PageReader}
+    {number : ℕ} {done : List Page} → (so_far : StreamSoFar way p k before left held now old number done)
+    → TakesNoPage (wanted_by p) (page_of old) (text_of old left) left' → TakesAllPages (wanted_by p) before left' done
+all_taken {p = p} {before = before} {left} left' {old} {done = done} so_far none =
     let bytes : List ℕ = so_far.bytes ++ none.bytes in
     let behind : Stream = pages_from (wanted_by p) (9999 - page_of old) (page_of old + 1) none.bytes in
-    let is : stream (wanted_by p) bytes ≡ with_pages so_far.done behind =
+    let is : stream (wanted_by p) bytes ≡ with_pages done behind =
     so_far.is none.bytes
-    ∙ ap (λ n. with_pages so_far.done (pages_from (wanted_by p) (9999 - n) (n + 1) none.bytes)) (sym so_far.many) in
+    ∙ ap (λ n. with_pages done (pages_from (wanted_by p) (9999 - n) (n + 1) none.bytes)) (sym so_far.many) in
     let P : Stream → Type 0 = λ s. MoreMayMend s.end in record {
       bytes = bytes;
       taken = Consumes-trans before (text_of old left) left' so_far.bytes none.bytes so_far.used none.taken;
-      are = ap (λ (s : Stream). s.pages) is ∙ ap (λ ps. so_far.done ++ ps) none.none ∙ append-nil so_far.done;
+      are = ap (λ (s : Stream). s.pages) is ∙ ap (λ ps. done ++ ps) none.none ∙ append-nil done;
       end = inl (subst P (sym is) none.end);
     }
 
--- these were printed
-all_printed : (way : Way) (p : Printer) (k : Table)
-    (before left left' held now : Option (List ℕ)) (meters : Meters) (old : PageReader) (number pages f0 f2 g0 g1 : ℕ)
-    → CanPrintBy way p → (so_far : StreamSoFar way p k before left held now old number) → pages + 1 ≡ number
-    → CountsPages p k meters so_far.done → TakesNoPage (wanted_by p) (page_of old) (text_of old left) left'
-    → (all : PrintsTaken way p k (record { before = before; now = left'; faults_before = f0; faults_now = f2 })
-    (record { before = held; now = now; faults_before = g0; faults_now = g1 }))
-    × CountsPages p k meters all.pages × (length all.pages ≡ pages)
-all_printed way p k before left left' held now meters old number pages f0 f2 g0 g1 can so_far next counts none = (
-  record {
-    pages = so_far.done;
-    taken = all_taken way p k before left left' held now old number so_far none;
-    writes = so_far.written;
-    prints = prints_of way p k so_far.bytes so_far.done _ _ can so_far.is;
-    passes = passes_of way p k so_far.bytes so_far.done _ _ can so_far.is;
-  },
-  counts,
-  omega (arith, next, so_far.next),
-)
-
--- memory runs out before the next page is counted
-full_before : (way : Way) (p : Printer) (k : Table) (input out : Outside) (meters : Meters) (pages : ℕ)
-    → PrintsCounted way p k input out meters pages → PrintedOutcome way p k input out meters pages answer.Memory
-full_before way p k input out meters pages printed = ((printed.0, inl printed.1), printed.2)
-
 -- the stream does not begin as one
-pub no_sync : (way : Way) (p : Printer) (k : Table) {before left : Option (List ℕ)} (held : Option (List ℕ))
-    (accounts : List Account) {f0 f1 : ℕ} (g0 g1 : ℕ) (why : StreamStop)
-    → OnInput {T = PageReader} (Err why) (λ page line cause. IfSome before (λ bytes. (want : Wanted)
+pub no_sync : (way : Way) (p : Printer) (k : Table) (input out : Outside) (accounts : List Account) (why : StreamStop) → Keeps out.before out.now
+    → OnInput {T = PageReader} (Err why) (λ page line cause. IfSome input.before (λ bytes. (want : Wanted)
     → stream want bytes ≡ record { pages = []; end = Fault page line cause }))
     → OnInput {T = PageReader} (Err why) (λ page line cause. (page ≡ 0) × (line ≡ 0))
-    → (IsErrOf {T = PageReader} (Err why) stop.Read → Rose f0 f1)
-    → (IsErrOf {T = PageReader} (Err why) stop.Read → (want : Wanted) → TakesAllPages want before left []) → UsesSome before left
-    → PrintedOutcome way p k (record { before = before; now = left; faults_before = f0; faults_now = f1 })
-    (record { before = held; now = held; faults_before = g0; faults_now = g1 })
-    (record { before = accounts; now = accounts }) 0 (stream_answer why)
-no_sync way p k {before} {left} held accounts {f0} {f1} g0 g1 (stop.Input page line cause) bad place cause_is taken more = (
+    → (IsErrOf {T = PageReader} (Err why) stop.Read → Rose input.faults_before input.faults_now)
+    → (IsErrOf {T = PageReader} (Err why) stop.Read → (want : Wanted) → TakesAllPages want input.before input.now [])
+    → UsesSome input.before input.now
+    → PrintedOutcome way p k input out (record { before = accounts; now = accounts }) 0 (stream_answer why)
+no_sync way p k input out accounts (stop.Input page line cause) kept bad place cause_is taken more = (
   (
     record {
       pages = [];
-      told = some before bad;
+      told = some input.before bad;
       stand = omega (arith, place.0);
-      writes = Appends-nil held;
-      prints = no_pages-print way p k;
-      passes = tt;
+      job = writes_none way p k out.before out.now kept;
     },
     none_counted p k accounts,
   ),
@@ -285,188 +201,138 @@ no_sync way p k {before} {left} held accounts {f0} {f1} g0 g1 (stop.Input page l
         → IsStream p o [] (Fault page line cause)
     some None h = tt
     some (Some bytes) h = h (wanted_by p)
-no_sync way p k {before} {left} held accounts {f0} {f1} g0 g1 stop.Read bad place cause_is taken more = (
+no_sync way p k input out accounts stop.Read kept bad place cause_is taken more = (
   (
     cause_is refl,
-    record {
-      pages = [];
-      taken = taken refl (wanted_by p);
-      writes = Appends-nil held;
-      prints = no_pages-print way p k;
-      passes = tt;
-    },
+    record { pages = []; taken = taken refl (wanted_by p); job = writes_none way p k out.before out.now kept },
     none_counted p k accounts,
   ),
   refl,
 )
-no_sync way p k {before} {left} held accounts {f0} {f1} g0 g1 stop.Memory bad place cause_is taken more =
-    full_before way p k _ _ _ 0 (none_printed way p k before left held accounts f0 f1 g0 g1 more)
+no_sync way p k input out accounts stop.Memory kept bad place cause_is taken more = (
+  (
+    record {
+      pages = [];
+      taken = record { bytes = more.bytes; taken = more.is; others = (stream (wanted_by p) more.bytes).pages; are = refl };
+      job = writes_none way p k out.before out.now kept;
+    },
+    inl (none_counted p k accounts),
+  ),
+  refl,
+)
 
 -- the pages that were read are all, where the text is at its end
 pages-none : (want : Wanted) (most number : ℕ) → pages_from want most number [] ≡ record { pages = []; end = Done }
 unfolding pages_from
 pages-none want most number = refl
 
-bytes_end : {way : Way} {p : Printer} {k : Table} {before left held now : Option (List ℕ)} {old : PageReader} {number : ℕ}
-    → (so_far : StreamSoFar way p k before left held now old number)
-    → stream (wanted_by p) so_far.bytes ≡ record { pages = so_far.done; end = Done }
-bytes_end {p = p} so_far =
+bytes_end : {way : Way} {p : Printer} {k : Table} {before left held now : Option (List ℕ)} {old : PageReader} {number : ℕ} {done : List Page}
+    → (so_far : StreamSoFar way p k before left held now old number done)
+    → stream (wanted_by p) so_far.bytes ≡ record { pages = done; end = Done }
+bytes_end {p = p} {done = done} so_far =
     ap (stream (wanted_by p)) (sym (append-nil so_far.bytes))
     ∙ so_far.is []
-    ∙ ap (with_pages so_far.done) (pages-none (wanted_by p) (9999 - length so_far.done) (length so_far.done + 1))
-    ∙ ap (λ ps. record { pages = ps; end = Done }) (append-nil so_far.done)
+    ∙ ap (with_pages done) (pages-none (wanted_by p) (9999 - length done) (length done + 1))
+    ∙ ap (λ ps. record { pages = ps; end = Done }) (append-nil done)
 
-pub stream_ends : {way : Way} {p : Printer} {k : Table} {before left held now : Option (List ℕ)} {old : PageReader} {number : ℕ}
-    → (so_far : StreamSoFar way p k before left held now old number) → IsAtEnd (text_of old left) → IsStream p before so_far.done Done
-stream_ends {p = p} {before = before} {left = left} {old = old} so_far end = told before (text_of old left) so_far.used end
+pub stream_ends : {way : Way} {p : Printer} {k : Table} {before left held now : Option (List ℕ)} {old : PageReader} {number : ℕ} {done : List Page}
+    → (so_far : StreamSoFar way p k before left held now old number done) → IsAtEnd (text_of old left) → IsStream p before done Done
+stream_ends {p = p} {before = before} {left = left} {old = old} {done = done} so_far end = told before (text_of old left) so_far.used end
   where
-    told : (a b : Option (List ℕ)) → Consumes a b so_far.bytes → IsAtEnd b → IsStream p a so_far.done Done
+    told : (a b : Option (List ℕ)) → Consumes a b so_far.bytes → IsAtEnd b → IsStream p a done Done
     told None b uses end = tt
     told (Some xs) None uses end = absurd uses
     told (Some xs) (Some ys) uses end =
         ap (stream (wanted_by p)) (uses ∙ ap (λ bs. so_far.bytes ++ bs) end ∙ append-nil so_far.bytes) ∙ bytes_end so_far
 
 -- or the text goes on with a fault
-pub stream_faults : {way : Way} {p : Printer} {k : Table} {before left held now : Option (List ℕ)} {old : PageReader} {number : ℕ}
-    → (so_far : StreamSoFar way p k before left held now old number) (page line : ℕ) (cause : InputCause)
+pub stream_faults : {way : Way} {p : Printer} {k : Table} {before left held now : Option (List ℕ)} {old : PageReader} {number : ℕ} {done : List Page}
+    → (so_far : StreamSoFar way p k before left held now old number done) (page line : ℕ) (cause : InputCause)
     → IfSome (text_of old left) (λ text. pages_from (wanted_by p) (9999 - page_of old) (page_of old + 1) text
-    ≡ record { pages = []; end = Fault page line cause }) → IsStream p before so_far.done (Fault page line cause)
-stream_faults {p = p} {before = before} {left = left} {old = old} so_far page line cause bad =
+    ≡ record { pages = []; end = Fault page line cause }) → IsStream p before done (Fault page line cause)
+stream_faults {p = p} {before = before} {left = left} {old = old} {done = done} so_far page line cause bad =
     told before (text_of old left) so_far.used bad
   where
     told : (a b : Option (List ℕ)) → Consumes a b so_far.bytes
         → IfSome b (λ text. pages_from (wanted_by p) (9999 - page_of old) (page_of old + 1) text
-        ≡ record { pages = []; end = Fault page line cause }) → IsStream p a so_far.done (Fault page line cause)
+        ≡ record { pages = []; end = Fault page line cause }) → IsStream p a done (Fault page line cause)
     told None b uses h = tt
     told (Some xs) None uses h = absurd uses
     told (Some xs) (Some ys) uses h =
         ap (stream (wanted_by p)) uses
         ∙ so_far.is ys
-        ∙ ap (λ n. with_pages so_far.done (pages_from (wanted_by p) (9999 - n) (n + 1) ys)) (sym so_far.many)
-        ∙ ap (with_pages so_far.done) h
-        ∙ ap (λ ps. record { pages = ps; end = Fault page line cause }) (append-nil so_far.done)
+        ∙ ap (λ n. with_pages done (pages_from (wanted_by p) (9999 - n) (n + 1) ys)) (sym so_far.many)
+        ∙ ap (with_pages done) h
+        ∙ ap (λ ps. record { pages = ps; end = Fault page line cause }) (append-nil done)
 
 -- the stream stops in its next page
-pub page_stopped : (T : Type 0) (way : Way) (p : Printer) (k : Table) {before left held now : Option (List ℕ)}
-    (left' : Option (List ℕ)) {meters : Meters} (old new : PageReader) (number pages : ℕ) {f0 f1 f2 : ℕ} (g0 g1 : ℕ) (why : StreamStop)
-    → CanPrintBy way p → (so_far : StreamSoFar way p k before left held now old number) → pages + 1 ≡ number
-    → CountsPages p k meters so_far.done → OnInput {T = T} (Err why) (EndsSo (wanted_by p) old left)
+pub page_stopped : (T : Type 0) {way : Way} {p : Printer} {k : Table} (input out : Outside) {meters : Meters} {left : Option (List ℕ)} {old : PageReader}
+    (new : PageReader) {number : ℕ} (pages : ℕ) {f1 : ℕ} {done : List Page} (why : StreamStop)
+    → CanPrintBy way p → StreamSoFar way p k input.before left out.before out.now old number done → pages + 1 ≡ number
+    → CountsPages p k meters done → OnInput {T = T} (Err why) (EndsSo (wanted_by p) old left)
     → OnInput {T = T} (Err why) (λ page line cause. page ≡ page_of old + 1)
-    → f0 ≤ f1 → (IsErrOf {T = T} (Err why) stop.Read → Rose f1 f2)
-    → (IsErrOf {T = T} (Err why) stop.Read → TakesNoPage (wanted_by p) (page_of old) (text_of old left) left')
-    → UsesSome (text_of old left) (text_of new left')
-    → PrintedOutcome way p k (record { before = before; now = left'; faults_before = f0; faults_now = f2 })
-    (record { before = held; now = now; faults_before = g0; faults_now = g1 }) meters pages (stream_answer why)
-page_stopped T way p k {before} {left} {held} {now} left' {meters} old new number pages {f0} {f1} {f2} g0 g1
-    (stop.Input page line cause) can so_far next counts bad place later cause_is taken more = (
-      (
-        record {
-          pages = so_far.done;
-          told = stream_faults so_far page line cause bad;
-          stand = omega (arith, place, so_far.many);
-          writes = so_far.written;
-          prints = prints_of way p k so_far.bytes so_far.done _ _ can so_far.is;
-          passes = passes_of way p k so_far.bytes so_far.done _ _ can so_far.is;
-        },
-        counts,
-      ),
-      omega (arith, next, so_far.next),
-    )
-page_stopped T way p k {before} {left} {held} {now} left' {meters} old new number pages {f0} {f1} {f2} g0 g1 stop.Read can so_far next counts bad place later cause_is taken more =
-    let all = all_printed way p k before left left' held now meters old number pages f0 f2 g0 g1 can so_far next counts (taken refl) in
-    ((rose_from f0 f1 f2 later (cause_is refl), all.0, all.1), all.2)
-page_stopped T way p k {before} {left} {held} {now} left' {meters} old new number pages {f0} {f1} {f2} g0 g1 stop.Memory can so_far next counts bad place later cause_is taken more =
-    full_before way p k _ _ _ pages
-    (some_printed way p k before left left' held now meters old new number pages f0 f2 g0 g1 can so_far next counts more)
-
--- the stream ended
-pub stream_done : (way : Way) (p : Printer) (k : Table)
-    {before left left' held now : Option (List ℕ)} {meters : Meters} (old new : PageReader) (number pages f0 f2 g0 g1 : ℕ)
-    → CanPrintBy way p → (so_far : StreamSoFar way p k before left held now old number) → pages + 1 ≡ number
-    → CountsPages p k meters so_far.done
-    → IsAtEnd (text_of old left) → IsAtEnd (text_of new left') → UsesSome (text_of old left) (text_of new left')
-    → PrintedOutcome way p k (record { before = before; now = left'; faults_before = f0; faults_now = f2 })
-    (record { before = held; now = now; faults_before = g0; faults_now = g1 }) meters pages answer.Done
-stream_done way p k {before} {left} {left'} {held} {now} {meters} old new number pages f0 f2 g0 g1 can so_far next counts end end' more =
-    let is : stream (wanted_by p) so_far.bytes ≡ record { pages = so_far.done; end = Done } = bytes_end so_far in
-    let P : List Page → Type 0 = AllByRecursion (IsPage (wanted_by p)) in
-    let are : P so_far.done = subst P (ap (λ (s : Stream). s.pages) is) (stream-pages (wanted_by p) so_far.bytes) in (
-      (
-        record {
-          pages = so_far.done;
-          reads = record {
-            bytes = so_far.bytes;
-            taken = text_ended before (text_of old left) left' new.unread so_far.bytes so_far.used end more end';
-            end = left_end left' new.unread end';
-            is = is;
-          };
-          told = stream_ends so_far end;
-          writes = so_far.written;
-          prints = ways-print way p k so_far.done can.can can.go are;
-          passes = ways-keep way p k so_far.done can.can can.go are;
-        },
-        counts,
-      ),
-      omega (arith, next, so_far.next),
-    )
-
--- a page was read, and a part of its job written
-pub page_not_written : {way : Way} {p : Printer} {k : Table} {before left held now now' : Option (List ℕ)}
-    {meters : Meters} (reader : PageReader) (number pages f0 f2 : ℕ) {g0 g1 g2 : ℕ} (page : Page)
-    → CanPrintBy way p → (read : StreamRead way p k before left held now reader number page) → pages + 1 ≡ number
-    → CountsPages p k meters (read.done ++ page ∷ []) → AppendsPart now now' (page_bytes_by way page p k)
-    → AppendsAtMost (most_rasters way p (window_of page.form p).height) now now' → g0 ≤ g1 → Rose g1 g2
-    → PrintedOutcome way p k (record { before = before; now = left; faults_before = f0; faults_now = f2 })
-    (record { before = held; now = now'; faults_before = g0; faults_now = g2 }) meters pages (answer.Write number)
-page_not_written {way} {p} {k} {before} {left} {held} {now} {now'} {meters} reader number pages f0 f2 {g0} {g1} {g2} page can read next counts part few later rose = (
+    → input.faults_before ≤ f1 → (IsErrOf {T = T} (Err why) stop.Read → Rose f1 input.faults_now)
+    → (IsErrOf {T = T} (Err why) stop.Read → TakesNoPage (wanted_by p) (page_of old) (text_of old left) input.now)
+    → UsesSome (text_of old left) (text_of new input.now)
+    → PrintedOutcome way p k input out meters pages (stream_answer why)
+page_stopped T input out new pages {done = done} (stop.Input page line cause) can so_far next counts bad place later cause_is taken more = (
   (
-    rose_from g0 g1 g2 later rose,
     record {
-      pages = read.done;
-      page = page;
-      taken = taken_pages p before (text_of reader left) left reader.unread read.bytes (read.done ++ page ∷ [])
-          _ _ read.used read.is (record { bytes = []; is = Consumes-nil (text_of reader left) });
-      number_is = read.next;
-      between = now;
-      whole = read.written;
-      prints = first_prints way p k read.bytes read.done (page ∷ []) _ _ can read.is;
-      part = part;
-      few = few;
-      passes = passes_of way p k read.bytes (read.done ++ page ∷ []) _ _ can read.is;
+      pages = done;
+      told = stream_faults so_far page line cause bad;
+      stand = omega (arith, place, so_far.many);
+      job = job_so_far can so_far;
     },
     counts,
   ),
-  omega (arith, next, read.next),
+  omega (arith, next, so_far.next),
+)
+page_stopped T input out new pages {f1} {done} stop.Read can so_far next counts bad place later cause_is taken more = (
+  (
+    rose_from input.faults_before f1 input.faults_now later (cause_is refl),
+    record { pages = done; taken = all_taken input.now so_far (taken refl); job = job_so_far can so_far },
+    counts,
+  ),
+  omega (arith, next, so_far.next),
+)
+page_stopped T {p = p} input out {left = left} {old} new pages {done = done} stop.Memory can so_far next counts bad place later cause_is taken more = (
+  (
+    record {
+      pages = done;
+      taken = taken_pages p input.before (text_of old left) input.now new.unread so_far.bytes done _ _ so_far.used so_far.is more;
+      job = job_so_far can so_far;
+    },
+    inl counts,
+  ),
+  omega (arith, next, so_far.next),
 )
 
--- a page was read, and nothing of its job was written
-pub page_without_room : {way : Way} {p : Printer} {k : Table} {before left held now now' : Option (List ℕ)}
-    {meters : Meters} (reader : PageReader) (number pages f0 f2 g0 g2 : ℕ) (page : Page)
-    → CanPrintBy way p → (read : StreamRead way p k before left held now reader number page) → pages + 1 ≡ number
-    → CountsPages p k meters (read.done ++ page ∷ []) → Keeps now now'
-    → PrintedOutcome way p k (record { before = before; now = left; faults_before = f0; faults_now = f2 })
-    (record { before = held; now = now'; faults_before = g0; faults_now = g2 }) meters pages answer.Memory
-page_without_room {way} {p} {k} {before} {left} {held} {now} {now'} {meters} reader number pages f0 f2 g0 g2 page can read next counts kept =
-    let all = taken_pages p before (text_of reader left) left reader.unread read.bytes (read.done ++ page ∷ [])
-    _ _ read.used read.is (record { bytes = []; is = Consumes-nil (text_of reader left) }) in (
-      (
-        record {
-          pages = read.done;
-          taken = record {
-            bytes = all.bytes;
-            taken = all.taken;
-            others = page ∷ all.others;
-            are = all.are ∙ append_assoc read.done (page ∷ []) all.others;
-          };
-          writes = appends_kept held now now' (job_bytes way p k read.done) read.written kept;
-          prints = first_prints way p k read.bytes read.done (page ∷ []) _ _ can read.is;
-          passes = first_passes way p k read.done (page ∷ [])
-              (passes_of way p k read.bytes (read.done ++ page ∷ []) _ _ can read.is);
-        },
-        inr (record { page = page; later = all.others; next = refl; pages_counted = counts }),
-      ),
-      omega (arith, next, read.next),
-    )
+-- the stream ended
+pub stream_done : {way : Way} {p : Printer} {k : Table} (input out : Outside) {meters : Meters} {left : Option (List ℕ)} {old : PageReader}
+    (new : PageReader) {number : ℕ} (pages : ℕ) {done : List Page}
+    → CanPrintBy way p → StreamSoFar way p k input.before left out.before out.now old number done → pages + 1 ≡ number
+    → CountsPages p k meters done
+    → IsAtEnd (text_of old left) → IsAtEnd (text_of new input.now) → UsesSome (text_of old left) (text_of new input.now)
+    → PrintedOutcome way p k input out meters pages answer.Done
+stream_done input out {left = left} {old} new pages {done} can so_far next counts end end' more = (
+  (
+    record {
+      pages = done;
+      reads = record {
+        bytes = so_far.bytes;
+        taken = text_ended input.before (text_of old left) input.now new.unread so_far.bytes so_far.used end more end';
+        end = left_end input.now new.unread end';
+        is = bytes_end so_far;
+      };
+      told = stream_ends so_far end;
+      job = job_so_far can so_far;
+    },
+    counts,
+  ),
+  omega (arith, next, so_far.next),
+)
+
+-- ---- the ends after a page was read
 
 -- the input begins with the pages that were read of it
 begins : (p : Printer) (before text : Option (List ℕ)) (bytes : List ℕ) (pages : List Page) (most number : ℕ) → Consumes before text bytes
@@ -480,44 +346,87 @@ begins p (Some xs) (Some ys) bytes pages most number uses is = (
       ∙ ap (λ (s : Stream). s.pages) (is ys),
 )
 
--- a page was read, and goes past a cap
-pub page_over : {way : Way} {p : Printer} {k : Table} {before left held now : Option (List ℕ)} {first last next : List Account}
-    (reader : PageReader) (number pages f0 f2 g0 g1 : ℕ) (page : Page) (n : InkCounts) (a : Answer)
-    → CanPrintBy way p → (read : StreamRead way p k before left held now reader number page) → pages + 1 ≡ number
-    → CountsPages p k (record { before = first; now = last }) read.done
-    → n ≡ page_dots page p k → RefusesPage number n last a → next ≡ last
-    → PrintedOutcome way p k (record { before = before; now = left; faults_before = f0; faults_now = f2 })
-    (record { before = held; now = now; faults_before = g0; faults_now = g1 })
-    (record { before = first; now = next }) pages a
-page_over {way} {p} {k} {before} {left} {held} {now} {first} {last} {next} reader number pages f0 f2 g0 g1 page n a can read so_many counts are refuses kept =
-    let S : Answer → Type 0 = λ b. PrintedOutcome way p k (record {
-      before = before;
-      now = left;
-      faults_before = f0;
-      faults_now = f2;
-    }) (record { before = held; now = now; faults_before = g0; faults_now = g1 })
-    (record { before = first; now = next }) pages b in
+module _ {way : Way} {p : Printer} {k : Table} (input out : Outside) {now : Option (List ℕ)} {reader : PageReader} {number : ℕ} (pages : ℕ)
+    {done : List Page} {page : Page} (can : CanPrintBy way p) (read : StreamRead way p k input.before input.now out.before now reader number done page)
+    (next : pages + 1 ≡ number) where
+  taken_whole : TakesPages p input.before input.now (done ++ page ∷ [])
+  taken_whole = taken_pages p input.before (text_of reader input.now) input.now reader.unread read.bytes (done ++ page ∷ [])
+      _ _ read.used read.is (record { bytes = []; is = Consumes-nil (text_of reader input.now) })
+
+  -- a part of its job was written
+  pub page_not_written : {meters : Meters} {g1 : ℕ} → CountsPages p k meters (done ++ page ∷ []) → AppendsPart now out.now (page_bytes_by way page p k)
+      → AppendsAtMost (most_rasters way p (window_of page.form p).height) now out.now → out.faults_before ≤ g1 → Rose g1 out.faults_now
+      → PrintedOutcome way p k input out meters pages (answer.Write number)
+  page_not_written {g1 = g1} counts part few later rose = (
+    (
+      rose_from out.faults_before g1 out.faults_now later rose,
+      record {
+        pages = done;
+        page = page;
+        taken = taken_whole;
+        number_is = read.next;
+        between = now;
+        job = job_before can read;
+        part = part;
+        few = few;
+        passes = ways-keep way p k (done ++ page ∷ []) can.can can.go (all_read can read);
+      },
+      counts,
+    ),
+    omega (arith, next, read.next),
+  )
+
+  -- nothing of its job was written
+  pub page_without_room : {meters : Meters} → CountsPages p k meters (done ++ page ∷ []) → Keeps now out.now
+      → PrintedOutcome way p k input out meters pages answer.Memory
+  page_without_room counts kept =
+      let before = job_before can read in (
+        (
+          record {
+            pages = done;
+            taken = record {
+              bytes = taken_whole.bytes;
+              taken = taken_whole.taken;
+              others = page ∷ taken_whole.others;
+              are = taken_whole.are ∙ append_assoc done (page ∷ []) taken_whole.others;
+            };
+            job = record {
+              writes = appends_kept out.before now out.now (job_bytes way p k done) before.writes kept;
+              prints = before.prints;
+              passes = before.passes;
+            };
+          },
+          inr (record { page = page; later = taken_whole.others; next = refl; pages_counted = counts }),
+        ),
+        omega (arith, next, read.next),
+      )
+
+-- it goes past a cap
+pub page_over : {way : Way} {p : Printer} {k : Table} (input out : Outside) {first last accounts : List Account} {reader : PageReader} {number : ℕ}
+    (pages : ℕ) {done : List Page} {page : Page} {n : InkCounts} (a : Answer)
+    → CanPrintBy way p → StreamRead way p k input.before input.now out.before out.now reader number done page → pages + 1 ≡ number
+    → CountsPages p k (record { before = first; now = last }) done
+    → n ≡ page_dots page p k → RefusesPage number n last a → accounts ≡ last
+    → PrintedOutcome way p k input out (record { before = first; now = accounts }) pages a
+page_over {way} {p} {k} input out {first} {last} {accounts} {reader} pages {done} {page} a can read next counts are refuses kept =
+    let S : Answer → Type 0 = λ b. PrintedOutcome way p k input out (record { before = first; now = accounts }) pages b in
     let over : OverCap = record { index = refuses.index; total = refuses.total; cap = refuses.cap } in
     let F : InkCounts → Type 0 = λ m. IsFirstOver last m over in
     let M : List Account → Type 0 = λ accounts. IsFirstOver accounts (page_dots page p k) over in
     subst S (sym refuses.is) (
       (record {
-        pages = read.done;
+        pages = done;
         page = page;
-        taken = taken_pages p before (text_of reader left) left reader.unread read.bytes (read.done ++ page ∷ [])
-            _ _ read.used read.is (record { bytes = []; is = Consumes-nil (text_of reader left) });
-        told = begins p before (text_of reader left) read.bytes (read.done ++ page ∷ []) _ _ read.used read.is;
+        taken = taken_whole input out pages can read next;
+        told = begins p input.before (text_of reader input.now) read.bytes (done ++ page ∷ []) _ _ read.used read.is;
         number_is = read.next;
-        writes = read.written;
-        prints = first_prints way p k read.bytes read.done (page ∷ []) _ _ can read.is;
-        passes = first_passes way p k read.done (page ∷ [])
-            (passes_of way p k read.bytes (read.done ++ page ∷ []) _ _ can read.is);
+        job = job_before can read;
         pages_counted = record { admitted = counts.admitted; counts = kept ∙ counts.counts };
         index = refuses.index;
         first = subst M (sym kept) (subst F are refuses.first);
         dots_are = ap all_inks are;
       }),
-      omega (arith, so_many, read.next),
+      omega (arith, next, read.next),
     )
 
 -- the bytes of a page are those of its halftone

@@ -22,7 +22,7 @@ use Rattle.ink_meter.specs.Counts.{halftone_dots}
 use Rattle.driver_core.specs.Outside.{Meters}
 use Rattle.driver_core.specs.Printing.Pages.{job_bytes}
 use Rattle.driver_core.specs.Printing.Outcome.{CountsPages}
-use Rattle.driver_core.proofs.Printing.Counting.{dots_counted, none_counted, one_counted}
+use Rattle.driver_core.proofs.Printing.Counting.{dots_counted, one_counted}
 use Rattle.halftone_reader.specs.Reading.{IsBetween, ReadsHalftone, ReadsPage}
 use Rattle.halftone_reader.proofs.PageSteps.{pages-read}
 
@@ -37,11 +37,10 @@ with_pages-none : (s : Stream) → with_pages [] s ≡ s
 with_pages-none s = refl
 
 -- These pages of the input were read and their jobs written; the rest of the text is the rest of the stream.
-pub record StreamSoFar (way : Way) (p : Printer) (k : Table)
-    (before left : Option (List ℕ)) (held now : Option (List ℕ)) (reader : PageReader) (number : ℕ) : Type 0 where
+pub record StreamSoFar (way : Way) (p : Printer) (k : Table) (before left held now : Option (List ℕ)) (reader : PageReader)
+    (number : ℕ) (done : List Page) : Type 0 where
   pub bytes : List ℕ
   pub used : Consumes before (text_of reader left) bytes
-  pub done : List Page
   pub is : (rest : List ℕ) → stream (wanted_by p) (bytes ++ rest)
       ≡ with_pages done (pages_from (wanted_by p) (9999 - length done) (length done + 1) rest)
   pub written : Appends held now (job_bytes way p k done)
@@ -54,13 +53,12 @@ stream-synced : (want : Wanted) (rest : List ℕ) → stream want (sync_word ++ 
 unfolding stream
 stream-synced want rest = refl
 
-pub stream_begin : (way : Way) (p : Printer) (k : Table) (before left held : Option (List ℕ)) (reader : PageReader)
-    → Consumes before (text_of reader left) sync_word
-    → page_of reader ≡ 0 → IsBetween reader → has_ended reader ≡ false → StreamSoFar way p k before left held held reader 1
-stream_begin way p k before left held reader sync none between unended = record {
+pub stream_begin : {way : Way} {p : Printer} {k : Table} {before left held : Option (List ℕ)} (reader : PageReader)
+    → Consumes before (text_of reader left) sync_word → page_of reader ≡ 0 → IsBetween reader → has_ended reader ≡ false
+    → StreamSoFar way p k before left held held reader 1 []
+stream_begin {p = p} {held = held} reader sync none between unended = record {
   bytes = sync_word;
   used = sync;
-  done = [];
   is = stream-synced (wanted_by p);
   written = Appends-nil held;
   many = none;
@@ -83,11 +81,10 @@ job-append way p k (first ∷ done) page =
     ∙ sym (append_assoc (page_bytes_by way first p k) (job_bytes way p k done) (page_bytes_by way page p k))
 
 -- one more page was read
-pub record StreamRead (way : Way) (p : Printer) (k : Table) (before left : Option (List ℕ))
-    (held now : Option (List ℕ)) (reader : PageReader) (number : ℕ) (page : Page) : Type 0 where
+pub record StreamRead (way : Way) (p : Printer) (k : Table) (before left held now : Option (List ℕ)) (reader : PageReader)
+    (number : ℕ) (done : List Page) (page : Page) : Type 0 where
   pub bytes : List ℕ
   pub used : Consumes before (text_of reader left) bytes
-  pub done : List Page
   pub is : (rest : List ℕ) → stream (wanted_by p) (bytes ++ rest)
       ≡ with_pages (done ++ page ∷ []) (pages_from (wanted_by p) (9998 - length done) (length done + 2) rest)
   pub written : Appends held now (job_bytes way p k done)
@@ -96,25 +93,24 @@ pub record StreamRead (way : Way) (p : Printer) (k : Table) (before left : Optio
   pub between : IsBetween reader
   pub unended : has_ended reader ≡ false
 
-pub stream_read : (way : Way) (p : Printer) (k : Table) (before left left' held now : Option (List ℕ))
-    (old new : PageReader) (number : ℕ) (page : Page) → StreamSoFar way p k before left held now old number
-    → ReadsPage (wanted_by p) old new left left' page → IsBetween new → StreamRead way p k before left' held now new number page
-stream_read way p k before left left' held now old new number page so_far reads between = record {
+pub next_read : {way : Way} {p : Printer} {k : Table} {before left left' held now : Option (List ℕ)} {old new : PageReader} {number : ℕ}
+    {done : List Page} {page : Page} → StreamSoFar way p k before left held now old number done
+    → ReadsPage (wanted_by p) old new left left' page → IsBetween new → StreamRead way p k before left' held now new number done page
+next_read {p = p} {before = before} {left} {left'} {old = old} {new} {done = done} {page} so_far reads between = record {
   bytes = so_far.bytes ++ reads.bytes;
   used = Consumes-trans before (text_of old left) (text_of new left') so_far.bytes reads.bytes so_far.used reads.used;
-  done = so_far.done;
   is = λ rest.
       let want = wanted_by p in
-      let n = length so_far.done in
+      let n = length done in
       let fuel : 9999 - n ≡ suc (9998 - n) = omega (arith, reads.number, reads.last, so_far.many) in
       let next : n + 1 + 1 ≡ n + 2 = omega arith in
       ap (stream want) (append_assoc so_far.bytes reads.bytes rest)
       ∙ so_far.is (reads.bytes ++ rest)
-      ∙ ap (λ m. with_pages so_far.done (pages_from want m (n + 1) (reads.bytes ++ rest))) fuel
-      ∙ ap (with_pages so_far.done) (pages-read want (9998 - n) (n + 1) (reads.bytes ++ rest) (Whole page rest)
+      ∙ ap (λ m. with_pages done (pages_from want m (n + 1) (reads.bytes ++ rest))) fuel
+      ∙ ap (with_pages done) (pages-read want (9998 - n) (n + 1) (reads.bytes ++ rest) (Whole page rest)
       (omega (arith, page-some want reads.bytes page reads.is, length-append reads.bytes rest)) (reads.is rest))
-      ∙ with_pages-append so_far.done page (pages_from want (9998 - n) (n + 1 + 1) rest)
-      ∙ ap (λ m. with_pages (so_far.done ++ page ∷ []) (pages_from want (9998 - n) m rest)) next;
+      ∙ with_pages-append done page (pages_from want (9998 - n) (n + 1 + 1) rest)
+      ∙ ap (λ m. with_pages (done ++ page ∷ []) (pages_from want (9998 - n) m rest)) next;
   written = so_far.written;
   many = omega (arith, reads.number, so_far.many);
   next = so_far.next;
@@ -123,24 +119,23 @@ stream_read way p k before left left' held now old new number page so_far reads 
 }
 
 -- and its job written
-pub stream_written : (way : Way) (p : Printer) (k : Table) (before left held now now' : Option (List ℕ))
-    (reader : PageReader) (number : ℕ) (page : Page) → StreamRead way p k before left held now reader number page
-    → Appends now now' (page_bytes_by way page p k) → StreamSoFar way p k before left held now' reader (number + 1)
-stream_written way p k before left held now now' reader number page read wrote =
-    let long : length (read.done ++ page ∷ []) ≡ length read.done + 1 = length-append read.done (page ∷ []) in
+pub stream_written : {way : Way} {p : Printer} {k : Table} {before left held now : Option (List ℕ)} (now' : Option (List ℕ))
+    {reader : PageReader} {number : ℕ} {done : List Page} {page : Page} → StreamRead way p k before left held now reader number done page
+    → Appends now now' (page_bytes_by way page p k) → StreamSoFar way p k before left held now' reader (number + 1) (done ++ page ∷ [])
+stream_written {way} {p} {k} {held = held} {now} now' {done = done} {page} read wrote =
+    let long : length (done ++ page ∷ []) ≡ length done + 1 = length-append done (page ∷ []) in
     let P : List ℕ → Type 0 = λ bs. Appends held now' bs in
     record {
       bytes = read.bytes;
       used = read.used;
-      done = read.done ++ page ∷ [];
       is = λ rest.
-          let fuel : 9998 - length read.done ≡ 9999 - length (read.done ++ page ∷ []) = omega (arith, long) in
-          let next : length read.done + 2 ≡ length (read.done ++ page ∷ []) + 1 = omega (arith, long) in
+          let fuel : 9998 - length done ≡ 9999 - length (done ++ page ∷ []) = omega (arith, long) in
+          let next : length done + 2 ≡ length (done ++ page ∷ []) + 1 = omega (arith, long) in
           read.is rest
-          ∙ ap (λ m. with_pages (read.done ++ page ∷ []) (pages_from (wanted_by p) m (length read.done + 2) rest)) fuel
-          ∙ ap (λ m. with_pages (read.done ++ page ∷ []) (pages_from (wanted_by p) (9999 - length (read.done ++ page ∷ [])) m rest)) next;
-      written = subst P (sym (job-append way p k read.done page))
-          (Appends-trans held now now' (job_bytes way p k read.done) (page_bytes_by way page p k) read.written wrote);
+          ∙ ap (λ m. with_pages (done ++ page ∷ []) (pages_from (wanted_by p) m (length done + 2) rest)) fuel
+          ∙ ap (λ m. with_pages (done ++ page ∷ []) (pages_from (wanted_by p) (9999 - length (done ++ page ∷ [])) m rest)) next;
+      written = subst P (sym (job-append way p k done page))
+          (Appends-trans held now now' (job_bytes way p k done) (page_bytes_by way page p k) read.written wrote);
       many = omega (arith, read.many, long);
       next = omega (arith, read.next, long);
       between = read.between;
@@ -154,76 +149,22 @@ pages-first want bytes page is =
     stream-synced want (bytes ++ [])
     ∙ pages-read want 9998 1 (bytes ++ []) (Whole page []) (omega (arith, page-some want bytes page is, length-append bytes [])) (is [])
 
--- ---- which pages these are
-
-pub begun : {way : Way} {p : Printer} {k : Table} {before left held : Option (List ℕ)} (reader : PageReader)
-    → Consumes before (text_of reader left) sync_word → page_of reader ≡ 0 → IsBetween reader → has_ended reader ≡ false
-    → (so_far : StreamSoFar way p k before left held held reader 1) × (so_far.done ≡ [])
-unfolding stream_begin
-begun {way} {p} {k} {before} {left} {held} reader sync none between unended =
-    (stream_begin way p k before left held reader sync none between unended, refl)
-
-pub read_on : {way : Way} {p : Printer} {k : Table} {before left left' held now : Option (List ℕ)} (old new : PageReader)
-    (number : ℕ) (page : Page) → (so_far : StreamSoFar way p k before left held now old number)
-    → ReadsPage (wanted_by p) old new left left' page → IsBetween new
-    → (read : StreamRead way p k before left' held now new number page) × (read.done ≡ so_far.done)
-unfolding stream_read
-read_on {way} {p} {k} {before} {left} {left'} {held} {now} old new number page so_far reads between =
-    (stream_read way p k before left left' held now old new number page so_far reads between, refl)
-
-pub written_on : {way : Way} {p : Printer} {k : Table} {before left held now now' : Option (List ℕ)} (reader : PageReader)
-    (number : ℕ) (page : Page) → (read : StreamRead way p k before left held now reader number page)
-    → Appends now now' (page_bytes_by way page p k)
-    → (so_far : StreamSoFar way p k before left held now' reader (number + 1)) × (so_far.done ≡ read.done ++ page ∷ [])
-unfolding stream_written
-written_on {way} {p} {k} {before} {left} {held} {now} {now'} reader number page read wrote =
-    (stream_written way p k before left held now now' reader number page read wrote, refl)
-
 -- ---- the same, on meters
 
 abbrev pub MeteredSoFar : (way : Way) (p : Printer)
     (k : Table) (before left held now : Option (List ℕ)) (meters : Meters) (reader : PageReader) (number : ℕ) → Type 0
 MeteredSoFar way p k before left held now meters reader number =
-    (so_far : StreamSoFar way p k before left held now reader number) × CountsPages p k meters so_far.done
+    (done : List Page) × StreamSoFar way p k before left held now reader number done × CountsPages p k meters done
 
-abbrev pub MeteredRead : (way : Way) (p : Printer) (k : Table) (before left held now : Option (List ℕ))
-    (meters : Meters) (reader : PageReader) (number : ℕ) (page : Page) → Type 0
-MeteredRead way p k before left held now meters reader number page =
-    (read : StreamRead way p k before left held now reader number page) × CountsPages p k meters read.done
-
-pub metered_begin : {way : Way} {p : Printer} {k : Table} {before left held : Option (List ℕ)}
-    {accounts : List Account} (reader : PageReader) → Consumes before (text_of reader left) sync_word
-    → page_of reader ≡ 0 → IsBetween reader → has_ended reader ≡ false
-    → MeteredSoFar way p k before left held held (record { before = accounts; now = accounts }) reader 1
-unfolding stream_begin
-metered_begin {way} {p} {k} {before} {left} {held} {accounts} reader sync none between unended =
-    (stream_begin way p k before left held reader sync none between unended, none_counted p k accounts)
-
-pub metered_read : (way : Way) (p : Printer) (k : Table) {before left left' held now : Option (List ℕ)} {meters : Meters}
-    (old new : PageReader) (number : ℕ) (page : Page) → MeteredSoFar way p k before left held now meters old number
-    → ReadsPage (wanted_by p) old new left left' page → IsBetween new → MeteredRead way p k before left' held now meters new number page
-unfolding stream_read
-metered_read way p k {before} {left} {left'} {held} {now} {meters} old new number page so_far reads between =
-    (stream_read way p k before left left' held now old new number page so_far.0 reads between, so_far.1)
-
--- and the dots that are counted of its planes have room
+-- a page was read, and the dots that are counted of its planes have room
 pub page_counted : {way : Way} {p q : Printer} {k : Table} {before left left' held now : Option (List ℕ)} {first last next : List Account}
-    (old new : PageReader) (number : ℕ) {form : PageForm} {t : DotTable} (n : InkCounts)
-    → MeteredSoFar way p k before left held now (record { before = first; now = last }) old number
+    {old new : PageReader} {number : ℕ} {form : PageForm} {t : DotTable} (n : InkCounts)
+    → (so_far : MeteredSoFar way p k before left held now (record { before = first; now = last }) old number)
     → (halftoned : ReadsHalftone p k old new left left' form t) → IsBetween new → q ≡ p
     → ((p : Printer) (h : Halftone) → p.inks ≡ q.inks → HasDots p h t.width t.rows t.inks (dot t) → n ≡ halftone_dots p h)
     → All (HasRoom n) last → next ≡ map (added n) last
-    → (read : StreamRead way p k before left' held now new number halftoned.page)
-    × CountsPages p k (record { before = first; now = next }) (read.done ++ halftoned.page ∷ [])
-page_counted {way} {p} {q} {k} old new number {t = t} n so_far halftoned between same counts room is =
-    let read = metered_read way p k old new number halftoned.page so_far halftoned.reads between in
+    → StreamRead way p k before left' held now new number so_far.0 halftoned.page
+    × CountsPages p k (record { before = first; now = next }) (so_far.0 ++ halftoned.page ∷ [])
+page_counted {p = p} {k = k} {t = t} n so_far halftoned between same counts room is =
     let are = dots_counted k t halftoned.page n same halftoned.dots counts in
-    (read.0, one_counted p k _ _ _ _ halftoned.page n are read.1 room is)
-
-pub metered_written : (way : Way) (p : Printer) (k : Table) {before left held now now' : Option (List ℕ)} {meters : Meters}
-    (reader : PageReader) (number : ℕ) (page : Page) → (read : StreamRead way p k before left held now reader number page)
-    → CountsPages p k meters (read.done ++ page ∷ [])
-    → Appends now now' (page_bytes_by way page p k) → MeteredSoFar way p k before left held now' meters reader (number + 1)
-unfolding stream_written
-metered_written way p k {before} {left} {held} {now} {now'} {meters} reader number page read counts wrote =
-    (stream_written way p k before left held now now' reader number page read wrote, counts)
+    (next_read so_far.1 halftoned.reads between, one_counted p k _ _ _ _ halftoned.page n are so_far.2 room is)

@@ -1,26 +1,31 @@
 -- Where nothing was taken, and nothing was written.
-use Rattle.std.proofs.Common.{ℕ, List, [], Option, None, Some, refl, sym, ◌∙◌, append-nil}
+use Rattle.std.proofs.Common.{ℕ, List, [], Option, None, Some, refl, ◌∙◌}
 use Rattle.std.specs.Io.KnownBytes.{Appends, Consumes, Keeps}
+use Rattle.std.proofs.KnownBytes.{Appends-nil, Consumes-kept, Consumes-nil}
 use Rattle.diffusion_definitions.specs.Diffusion.{Table}
 use Rattle.escp2_definitions.specs.Commands.{commands_from}
 use Rattle.escp2_definitions.specs.Machine.{execute_from}
-use Rattle.page_definitions.specs.Printing.{Prints}
 use Rattle.page_definitions.specs.Ways.{Way}
 use Rattle.printer_definitions.specs.Printer.{Printer}
-use Rattle.driver_core.specs.Printing.Pages.{job_bytes}
+use Rattle.driver_core.specs.Printing.Outcome.{WritesJob}
 
--- where nothing was taken and nothing written, the pages are the first 0 pages
 pub consumes_none : (a b : Option (List ℕ)) → Keeps a b → Consumes a b []
-consumes_none None b kept = tt
-consumes_none (Some x) None kept = absurd kept
-consumes_none (Some x) (Some y) kept = sym kept
+consumes_none a b kept = Consumes-kept a a b [] (Consumes-nil a) kept
+
+pub appends_kept : (a b d : Option (List ℕ)) (bytes : List ℕ) → Appends a b bytes → Keeps b d → Appends a d bytes
+appends_kept None b d bytes grown kept = tt
+appends_kept (Some x) None d bytes grown kept = absurd grown
+appends_kept (Some x) (Some y) None bytes grown kept = absurd kept
+appends_kept (Some x) (Some y) (Some z) bytes grown kept = kept ∙ grown
 
 pub appends_none : (a b : Option (List ℕ)) → Keeps a b → Appends a b []
-appends_none None b kept = tt
-appends_none (Some x) None kept = absurd kept
-appends_none (Some x) (Some y) kept = kept ∙ sym (append-nil x)
+appends_none a b kept = appends_kept a a b [] (Appends-nil a) kept
 
--- the job of no page prints none
-pub no_pages-print : (way : Way) (p : Printer) (k : Table) → Prints p k [] (job_bytes way p k [])
+-- the job of no page was written
+pub writes_none : (way : Way) (p : Printer) (k : Table) (held now : Option (List ℕ)) → Keeps held now → WritesJob way p k [] held now
 unfolding commands_from execute_from
-no_pages-print way p k = record { whole = refl; accepted = refl; sheets = tt }
+writes_none way p k held now kept = record {
+  writes = appends_none held now kept;
+  prints = record { whole = refl; accepted = refl; sheets = tt };
+  passes = tt;
+}

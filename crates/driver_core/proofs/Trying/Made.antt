@@ -1,5 +1,5 @@
 -- What a printer reads of the stream that is made for it: the made pages, or a refusal of their header.
-use Rattle.std.proofs.Common.{◌≡◌, ℕ, ◌<◌, ◌≤◌, ◌^◌, ◌⊎◌, Bool, true, false, if◌then◌else◌, List, [], Ok, Err, IsOk, inl, inr, refl, sym, ◌∙◌, ap, subst, arith}
+use Rattle.std.proofs.Common.{◌≡◌, ℕ, ◌<◌, ◌≤◌, ◌^◌, ◌⊎◌, Bool, true, false, if◌then◌else◌, List, [], Ok, Err, IsOk, refl, sym, ◌∙◌, ap, subst, arith}
 use Rattle.std.specs.Io.KnownBytes.{Keeps}
 use Rattle.diffusion_definitions.specs.Diffusion.{Table}
 use Rattle.diffusion_kernel.specs.Tables.{table_of}
@@ -46,15 +46,11 @@ pub data ReadsMade (job : Job) (p : Printer) : Type 0 where
 -- a line of a made page is short
 line-short : (kind : Kind) (width : ℕ) → width ≤ 8191 → line_bytes width (row_of kind).bits_per_pixel < 2 ^ 32
 line-short kinds.Gray8 width narrow = omega arith
-line-short kinds.Black8 width narrow = omega arith
-line-short kinds.Rgb8 width narrow = omega arith
-line-short kinds.Black1 width narrow = omega arith
-line-short kinds.Cmyk8 width narrow = omega arith
+line-short other width narrow = omega arith
 
 -- a resolution that a printer has fits 32 bits
 fits : (dpi : ℕ) → (dpi ≡ 360) ⊎ (dpi ≡ 720) → dpi < 2 ^ 32
-fits dpi (inl is) = omega arith
-fits dpi (inr is) = omega arith
+fits dpi is = omega arith
 
 pub reads_made : (job : Job) (p : Printer) → IsWithinBounds job → CanPrint p → ReadsMade job p
 reads_made job p within can = by_size wide tall refl refl
@@ -123,13 +119,7 @@ pub trial_stopped : (job : Job) (p : Printer) (out : Outside) (a : Answer) → R
     → Keeps out.before out.now → TrialOutcome job p out a
 trial_stopped job p out (answer.Input page line found) reads stops keeps = (made_refused job p page line found reads stops, keeps)
 trial_stopped job p out answer.Memory reads stops keeps = keeps
-trial_stopped job p out answer.Done reads stops keeps = absurd stops
-trial_stopped job p out (answer.Write page) reads stops keeps = absurd stops
-trial_stopped job p out answer.Read reads stops keeps = absurd stops
-trial_stopped job p out (answer.Usage found) reads stops keeps = absurd stops
-trial_stopped job p out (answer.Profile line found) reads stops keeps = absurd stops
-trial_stopped job p out (answer.OverCap page total dots cap) reads stops keeps = absurd stops
-trial_stopped job p out (answer.Job offset found) reads stops keeps = absurd stops
+trial_stopped job p out other reads stops keeps = absurd stops
 
 -- the made pages that a printer takes are printed by their bytes
 made_printed : (job : Job) (p : Printer) → CanPrint p → CanGo (way_of job) p → TakesMade job p

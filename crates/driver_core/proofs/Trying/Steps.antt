@@ -38,7 +38,7 @@ use Rattle.weave_base.specs.Causes.{Rose}
 use Rattle.driver_core.specs.Printing.Pages.{job_bytes}
 use Rattle.driver_core.specs.Trying.Pages.{StopsTrying, TriesAll, TriesPage, stream_read}
 use Rattle.driver_core.specs.Trying.Summary.{dots_of_pages, rasters_of, rasters_of_pages, stream_made, totals_of}
-use Rattle.driver_core.proofs.Printing.StreamSteps.{StreamRead, StreamSoFar, begun, job-append, read_on, written_on}
+use Rattle.driver_core.proofs.Printing.StreamSteps.{StreamSoFar, job-append, next_read, stream_begin, stream_written}
 use Rattle.driver_core.proofs.Trying.Sheets.{same-counts}
 
 -- ---- one page more
@@ -63,11 +63,12 @@ dots-append p k (first ∷ done) page =
 -- These pages were read, printed and executed.
 pub record TriedSoFar (way : Way) (p : Printer) (k : Table) (before left : Option (List ℕ)) (reader : PageReader) (number : ℕ)
     (written : Written) (counter : JobCounter) : Type 0 where
-  pub so_far : StreamSoFar way p k before left None None reader number
-  pub bytes : written.bytes ≡ length (job_bytes way p k so_far.done)
-  pub rasters : written.rasters ≡ rasters_of_pages way p k so_far.done
-  pub sheets : sheets_of counter ≡ length so_far.done
-  pub counts : counts_of counter ≡ dots_of_pages p k so_far.done
+  pub done : List Page
+  pub so_far : StreamSoFar way p k before left None None reader number done
+  pub bytes : written.bytes ≡ length (job_bytes way p k done)
+  pub rasters : written.rasters ≡ rasters_of_pages way p k done
+  pub sheets : sheets_of counter ≡ length done
+  pub counts : counts_of counter ≡ dots_of_pages p k done
   pub between : IsBetweenPages p counter
   pub few_bytes : written.bytes ≤ number * 2 ^ 40
   pub few_rasters : written.rasters ≤ number * 2 ^ 32
@@ -76,27 +77,19 @@ pub tried_begin : {way : Way} {p : Printer} {k : Table} {before left : Option (L
     → Consumes before (text_of reader left) sync_word → page_of reader ≡ 0 → IsBetween reader → has_ended reader ≡ false
     → IsBetweenPages p counter → sheets_of counter ≡ 0 → counts_of counter ≡ record { k = 0; c = 0; m = 0; y = 0 }
     → TriedSoFar way p k before left reader 1 (record { bytes = 0; rasters = 0 }) counter
-tried_begin {way} {p} {k} reader counter sync none between unended blank sheets counts =
-    let first = begun {way = way} {p = p} {k = k} reader sync none between unended in
-    record {
-      so_far = first.0;
-      bytes = sym (ap (λ done. length (job_bytes way p k done)) first.1);
-      rasters = sym (ap (rasters_of_pages way p k) first.1);
-      sheets = sheets ∙ sym (ap length first.1);
-      counts = counts ∙ sym (ap (dots_of_pages p k) first.1);
-      between = blank;
-      few_bytes = omega arith;
-      few_rasters = omega arith;
-    }
+tried_begin reader counter sync none between unended blank sheets counts = record {
+  done = [];
+  so_far = stream_begin reader sync none between unended;
+  bytes = refl;
+  rasters = refl;
+  sheets = sheets;
+  counts = counts;
+  between = blank;
+  few_bytes = omega arith;
+  few_rasters = omega arith;
+}
 
--- one more page was read
-pub tried_read : {way : Way} {p : Printer} {k : Table} {before left left' : Option (List ℕ)} {written : Written} {counter : JobCounter}
-    (old new : PageReader) (number : ℕ) (page : Page) → (tried : TriedSoFar way p k before left old number written counter)
-    → ReadsPage (wanted_by p) old new left left' page → IsBetween new
-    → (read : StreamRead way p k before left' None None new number page) × (read.done ≡ tried.so_far.done)
-tried_read old new number page tried reads between = read_on old new number page tried.so_far reads between
-
--- and printed and executed
+-- one more page was read, printed and executed
 pub tried_page : {way : Way} {p : Printer} {k : Table} {before left left' : Option (List ℕ)} {written : Written} {old : JobCounter}
     (now reader : PageReader) (number : ℕ) (page : Page) (new : JobCounter) (sum : PageSum) (len : ℕ) → CanPrint p
     → (tried : TriedSoFar way p k before left now number written old)
@@ -107,24 +100,21 @@ pub tried_page : {way : Way} {p : Printer} {k : Table} {before left left' : Opti
     (record { bytes = written.bytes + sum.bytes; rasters = written.rasters + sum.rasters }) new
 unfolding page_bytes_by
 tried_page {way} {p} {k} {before} {left} {left'} {written} {old} now reader number page new sum len can tried reads between small len_is tries =
-    let read = tried_read now reader number page tried reads between in
-    let next = written_on {now' = None} reader number page read.0 tt in
-    let done : List Page = tried.so_far.done in
-    let are : next.0.done ≡ done ++ page ∷ [] = next.1 ∙ ap (λ pages. pages ++ page ∷ []) read.1 in
+    let done : List Page = tried.done in
     let sums = rw len_is at tries.sums in
     let long : length (done ++ page ∷ []) ≡ length done + 1 = length-append done (page ∷ []) in
     let all : length (job_bytes way p k (done ++ page ∷ [])) ≡ length (job_bytes way p k done) + length (page_bytes_by way page p k) =
     ap length (job-append way p k done page) ∙ length-append (job_bytes way p k done) (page_bytes_by way page p k) in
     record {
-      so_far = next.0;
-      bytes = omega (arith, tried.bytes, sums.bytes, all) ∙ sym (ap (λ pages. length (job_bytes way p k pages)) are);
-      rasters = omega (arith, tried.rasters, sums.rasters, rasters-append way p k done page) ∙ sym (ap (rasters_of_pages way p k) are);
-      sheets = omega (arith, tried.sheets, tries.counts.sheets, long) ∙ sym (ap length are);
+      done = done ++ page ∷ [];
+      so_far = stream_written None (next_read tried.so_far reads between) tt;
+      bytes = omega (arith, tried.bytes, sums.bytes, all);
+      rasters = omega (arith, tried.rasters, sums.rasters, rasters-append way p k done page);
+      sheets = omega (arith, tried.sheets, tries.counts.sheets, long);
       counts = tries.counts.counts (wanted-once p (halftone page p k) can)
           ∙ ap (λ n. together n (ink_dots (dots_wanted p (halftone page p k)))) tried.counts
           ∙ ap (together (dots_of_pages p k done)) (page_dots-is p k page)
-          ∙ sym (dots-append p k done page)
-          ∙ sym (ap (dots_of_pages p k) are);
+          ∙ sym (dots-append p k done page);
       between = tries.counts.between;
       few_bytes = omega (arith, tried.few_bytes, tries.sums.short);
       few_rasters = omega (arith, tried.few_rasters, small);
@@ -150,7 +140,7 @@ pub page_stops : (T : Type 0) {way : Way} {k : Table} {left : Option (List ℕ)}
     → OnInput {T = T} (Err why) (EndsSo (wanted_by p) reader left)
     → (IsErrOf {T = T} (Err why) stop.Read → Rose 0 0) → a ≡ stream_answer why → StopsTrying job p a
 page_stops T job p made (stop.Input page line cause) a is tried bad rose answered =
-    let told : stream (wanted_by p) made ≡ record { pages = tried.so_far.done; end = Fault page line cause } =
+    let told : stream (wanted_by p) made ≡ record { pages = tried.done; end = Fault page line cause } =
     stream_faults tried.so_far page line cause bad in
     subst (StopsTrying job p) (sym answered)
     (ap (λ bs. (stream (wanted_by p) bs).end) (sym is) ∙ ap (λ (s : Stream). s.end) told)
@@ -170,21 +160,21 @@ pub all_tried : {left : Option (List ℕ)} {reader : PageReader} {number : ℕ} 
       dots = counts_of counter;
     } → TriesAll job p totals
 all_tried {number = number} {written = written} {counter = counter} job p made totals is tried end are =
-    let told : stream (wanted_by p) made ≡ record { pages = tried.so_far.done; end = Done } = stream_ends tried.so_far end in
-    let whole : stream_read job p ≡ record { pages = tried.so_far.done; end = Done } = ap (stream (wanted_by p)) (sym is) ∙ told in
-    let pages : number - 1 ≡ length tried.so_far.done = omega (arith, tried.so_far.next) in
+    let told : stream (wanted_by p) made ≡ record { pages = tried.done; end = Done } = stream_ends tried.so_far end in
+    let whole : stream_read job p ≡ record { pages = tried.done; end = Done } = ap (stream (wanted_by p)) (sym is) ∙ told in
+    let pages : number - 1 ≡ length tried.done = omega (arith, tried.so_far.next) in
     let same : (pages sheets bytes rasters : ℕ) (dots : InkCounts) → Totals = λ pages sheets bytes rasters dots.
     record { pages = pages; sheets = sheets; bytes = bytes; rasters = rasters; dots = dots } in
     record {
       takes = ap (λ (s : Stream). s.end) whole;
       are = are
           ∙ ap (λ n. same n (sheets_of counter) written.bytes written.rasters (counts_of counter)) pages
-          ∙ ap (λ n. same (length tried.so_far.done) n written.bytes written.rasters (counts_of counter)) tried.sheets
-          ∙ ap (λ n. same (length tried.so_far.done) (length tried.so_far.done) n written.rasters (counts_of counter)) tried.bytes
-          ∙ ap (λ n. same (length tried.so_far.done) (length tried.so_far.done)
-          (length (job_bytes (way_of job) p (table_of job.kernel) tried.so_far.done)) n (counts_of counter)) tried.rasters
-          ∙ ap (λ (n : InkCounts). same (length tried.so_far.done) (length tried.so_far.done)
-          (length (job_bytes (way_of job) p (table_of job.kernel) tried.so_far.done))
-          (rasters_of_pages (way_of job) p (table_of job.kernel) tried.so_far.done) n) tried.counts
+          ∙ ap (λ n. same (length tried.done) n written.bytes written.rasters (counts_of counter)) tried.sheets
+          ∙ ap (λ n. same (length tried.done) (length tried.done) n written.rasters (counts_of counter)) tried.bytes
+          ∙ ap (λ n. same (length tried.done) (length tried.done)
+          (length (job_bytes (way_of job) p (table_of job.kernel) tried.done)) n (counts_of counter)) tried.rasters
+          ∙ ap (λ (n : InkCounts). same (length tried.done) (length tried.done)
+          (length (job_bytes (way_of job) p (table_of job.kernel) tried.done))
+          (rasters_of_pages (way_of job) p (table_of job.kernel) tried.done) n) tried.counts
           ∙ ap (λ (s : Stream). totals_of (way_of job) p (table_of job.kernel) s.pages) (sym whole);
     }

@@ -1,5 +1,5 @@
 -- What a stream may be to the printing of it: valid, faulty, or with a page that goes past a cap.
-use Rattle.std.specs.Prelude.{◌≡◌, List, ℕ, ◌∷◌, ◌++◌, All, Some}
+use Rattle.std.specs.Prelude.{◌≡◌, ◌⊎◌, List, ℕ, ◌∷◌, ◌++◌, All, Some}
 use Rattle.diffusion_definitions.specs.Diffusion.{Table}
 use Rattle.ink_meter.specs.Accounts.{HasRoom}
 use Rattle.ink_meter.specs.Counts.{Admitted, counted, page_dots}
@@ -8,7 +8,7 @@ use Rattle.pwg_definitions.specs.declared.faults.InputCause.{InputCause}
 use Rattle.pwg_definitions.specs.Stream.{Page, StreamEnd, stream}
 use Rattle.pwg_definitions.specs.Stream.StreamEnd.{Done, Fault}
 use Rattle.separation_definitions.specs.Windows.{wanted_by}
-use Rattle.driver_core.specs.Outside.{Meters, Outside}
+use Rattle.driver_core.specs.Outside.{IsCalm, Meters, Outside}
 
 -- The input is a stream of these pages with a clean end, and the meters have room for all of them.
 pub record IsValid (p : Printer) (k : Table) (input : Outside) (meters : Meters) : Type 0 where
@@ -39,3 +39,8 @@ pub record IsCapped (p : Printer) (k : Table) (input : Outside) (meters : Meters
   pub told : input.before ≡ Some bytes
   pub is : stream (wanted_by p) bytes ≡ record { pages = pages ++ page ∷ later; end = end }
   pub full : All (HasRoom (page_dots page p k)) (counted p k pages meters.before) → ⊥
+
+-- If nothing outside fails, printing such a stream ends with this status, or with 7 where memory runs out.
+abbrev pub AnswersBy : (Printer → Table → Outside → Meters → Type 0) → ℕ → Printer → Table → Outside → Outside → Meters → ℕ → Type 0
+AnswersBy IsSuch s p k input out meters status =
+    IsSuch p k input meters → IsCalm input → IsCalm out → (status ≡ s) ⊎ (status ≡ 7)

@@ -21,55 +21,51 @@ use Rattle.weave_base.specs.Parts.{AppendsPart}
 use Rattle.driver_core.specs.Outside.{HasRisen, Meters, Outside}
 use Rattle.driver_core.specs.Printing.Pages.{BeginsStream, IsStream, ReadsStream, TakesPages, job_bytes}
 
--- All pages of the input were printed: it is a stream with a clean end, and was read to this end; the job of its
--- pages was written, prints them, and keeps to the way of the head.
+-- The job of these pages was written: it prints them, and keeps to the way of the head.
+pub record WritesJob (way : Way) (p : Printer) (k : Table) (pages : List Page) (before now : Option (List ℕ)) : Type 0 where
+  pub writes : Appends before now (job_bytes way p k pages)
+  pub prints : Prints p k pages (job_bytes way p k pages)
+  pub passes : KeepTo way p k pages
+
+-- All pages of the input were printed: it is a stream with a clean end, and was read to this end; the job of its pages
+-- was written.
 pub record PrintsAll (way : Way) (p : Printer) (k : Table) (input out : Outside) : Type 0 where
   pub pages : List Page
   pub reads : ReadsStream p input.before input.now pages
   pub told : IsStream p input.before pages Done
-  pub writes : Appends out.before out.now (job_bytes way p k pages)
-  pub prints : Prints p k pages (job_bytes way p k pages)
-  pub passes : KeepTo way p k pages
+  pub job : WritesJob way p k pages out.before out.now
 
 -- The input, if the source reports its bytes, is a stream of some pages that ends with this fault. The job of these
--- pages was written: those before the named page, none where page 0, the sync word, is named. It prints them, and keeps
--- to the way of the head.
+-- pages was written: those before the named page, none where page 0, the sync word, is named.
 pub record MeetsFault (way : Way) (p : Printer) (k : Table) (input out : Outside) (page line : ℕ) (cause : InputCause) : Type 0 where
   pub pages : List Page
   pub told : IsStream p input.before pages (Fault page line cause)
   pub stand : length pages ≡ page - 1
-  pub writes : Appends out.before out.now (job_bytes way p k pages)
-  pub prints : Prints p k pages (job_bytes way p k pages)
-  pub passes : KeepTo way p k pages
+  pub job : WritesJob way p k pages out.before out.now
 
--- The job of some first pages of what was read was written, prints them, and keeps to the way of the head.
+-- The job of some first pages of what was read was written.
 pub record PrintsSome (way : Way) (p : Printer) (k : Table) (input out : Outside) : Type 0 where
   pub pages : List Page
   pub taken : TakesPages p input.before input.now pages
-  pub writes : Appends out.before out.now (job_bytes way p k pages)
-  pub prints : Prints p k pages (job_bytes way p k pages)
-  pub passes : KeepTo way p k pages
+  pub job : WritesJob way p k pages out.before out.now
 
--- The job of all whole pages of what was read was written, prints them, and keeps to the way of the head. What was read
--- has no fault but one that more bytes could mend, or is fewer than four bytes.
+-- The job of all whole pages of what was read was written. What was read has no fault but one that more bytes could
+-- mend, or is fewer than four bytes.
 pub record PrintsTaken (way : Way) (p : Printer) (k : Table) (input out : Outside) : Type 0 where
   pub pages : List Page
   pub taken : TakesAllPages (wanted_by p) input.before input.now pages
-  pub writes : Appends out.before out.now (job_bytes way p k pages)
-  pub prints : Prints p k pages (job_bytes way p k pages)
-  pub passes : KeepTo way p k pages
+  pub job : WritesJob way p k pages out.before out.now
 
--- The job of the pages before this one was written, which prints them, and a proper prefix of its own. This prefix has
--- no more rasters of an ink than the way of the page takes. All of them are the first pages of what was read, and keep
--- to the way of the head.
+-- The job of the pages before this one was written, and a proper prefix of its own. This prefix has no more rasters of
+-- an ink than the way of the page takes. All of them are the first pages of what was read, and keep to the way of the
+-- head.
 pub record StopsInPage (way : Way) (p : Printer) (k : Table) (input out : Outside) (number : ℕ) : Type 0 where
   pub pages : List Page
   pub page : Page
   pub taken : TakesPages p input.before input.now (pages ++ page ∷ [])
   pub number_is : number ≡ length pages + 1
   pub between : Option (List ℕ)
-  pub whole : Appends out.before between (job_bytes way p k pages)
-  pub prints : Prints p k pages (job_bytes way p k pages)
+  pub job : WritesJob way p k pages out.before between
   pub part : AppendsPart between out.now (page_bytes_by way page p k)
   pub few : AppendsAtMost (most_rasters way p (window_of page.form p).height) between out.now
   pub passes : KeepTo way p k (pages ++ page ∷ [])
@@ -87,17 +83,15 @@ pub record CountsOneMore (p : Printer) (k : Table) (meters : Meters) (pages othe
   pub pages_counted : CountsPages p k meters (pages ++ page ∷ [])
 
 -- This page was read whole, and the first meter without room for its dots has this total and this cap. The job of the
--- pages before it was written, prints them, and keeps to the way of the head, and these were counted. The input, if the
--- source reports its bytes, begins with all of them.
+-- pages before it was written, and these were counted. The input, if the source reports its bytes, begins with all of
+-- them.
 pub record GoesOver (way : Way) (p : Printer) (k : Table) (input out : Outside) (meters : Meters) (number total dots cap : ℕ) : Type 0 where
   pub pages : List Page
   pub page : Page
   pub taken : TakesPages p input.before input.now (pages ++ page ∷ [])
   pub told : BeginsStream p input.before (pages ++ page ∷ [])
   pub number_is : number ≡ length pages + 1
-  pub writes : Appends out.before out.now (job_bytes way p k pages)
-  pub prints : Prints p k pages (job_bytes way p k pages)
-  pub passes : KeepTo way p k pages
+  pub job : WritesJob way p k pages out.before out.now
   pub pages_counted : CountsPages p k meters pages
   pub index : ℕ
   pub first : IsFirstOver meters.now (page_dots page p k) (record { index = index; total = total; cap = cap })
@@ -116,9 +110,7 @@ PrintOutcome way p k input out meters (answer.OverCap number total dots cap) = G
 PrintOutcome way p k input out meters answer.Memory =
     (some : PrintsSome way p k input out)
     × (CountsPages p k meters some.pages ⊎ CountsOneMore p k meters some.pages some.taken.others)
-PrintOutcome way p k input out meters (answer.Usage fault) = ⊥
-PrintOutcome way p k input out meters (answer.Profile line cause) = ⊥
-PrintOutcome way p k input out meters (answer.Job offset cause) = ⊥
+PrintOutcome way p k input out meters other = ⊥
 
 -- how many pages were written whole
 abbrev pub pages_written : (way : Way) (p : Printer) (k : Table) (input out : Outside) (meters : Meters) (a : Answer)
@@ -129,9 +121,7 @@ pages_written way p k input out meters answer.Read does = length does.1.pages
 pages_written way p k input out meters (answer.Write number) does = length does.1.pages
 pages_written way p k input out meters (answer.OverCap number total dots cap) does = length does.pages
 pages_written way p k input out meters answer.Memory does = length does.0.pages
-pages_written way p k input out meters (answer.Usage fault) does = 0
-pages_written way p k input out meters (answer.Profile line cause) does = 0
-pages_written way p k input out meters (answer.Job offset cause) does = 0
+pages_written way p k input out meters other does = 0
 
 -- the outcome where so many pages were written whole
 abbrev pub PrintedOutcome : Way → Printer → Table → Outside → Outside → Meters → ℕ → Answer → Type 0

@@ -1,18 +1,14 @@
 -- What a run promises of the command `print`.
-use Rattle.std.specs.Prelude.{◌≡◌, ℕ, ◌⊎◌, List, [], ◌∷◌, ◌++◌, All, Some, Ok}
+use Rattle.std.specs.Prelude.{◌≡◌, ℕ, ◌⊎◌, List, [], ◌∷◌, ◌++◌, Ok}
 use Rattle.diffusion_kernel.specs.Tables.{table_of}
 use Rattle.driver_answer.specs.declared.answer.Answer.TheVariants as answer
-use Rattle.ink_meter.specs.Accounts.{Account, HasRoom}
 use Rattle.job_words.specs.declared.reading.Job.{Job}
 use Rattle.job_words.specs.declared.table.Verb.TheVariants as verb
 use Rattle.job_words.specs.Meaning.{job_meaning, profile_named}
-use Rattle.ink_meter.specs.Counts.{Admitted, counted, page_dots}
 use Rattle.printer_definitions.specs.Printer.{Printer}
 use Rattle.pwg_definitions.specs.declared.faults.InputCause.{InputCause}
-use Rattle.pwg_definitions.specs.Stream.{Page, StreamEnd, stream}
-use Rattle.pwg_definitions.specs.Stream.StreamEnd.{Done, Fault}
-use Rattle.separation_definitions.specs.Windows.{wanted_by}
-use Rattle.driver_core.specs.Outside.{NothingFailed, Outside, Outsides}
+use Rattle.driver_core.specs.Outside.{HasFailed, Outside, Outsides}
+use Rattle.driver_core.specs.Printing.One.{AnswersBy, IsCapped, IsFaulty, IsValid}
 use Rattle.driver_core.specs.Printing.Outcome.{CountsOneMore, CountsPages, GoesOver, MeetsFault, PrintsAll}
 use Rattle.driver_core.specs.Printing.Outcome.{PrintsSome, PrintsTaken, StopsInPage}
 use Rattle.driver_core.specs.Runs.Fitting.{IsProfileOf, way_of}
@@ -24,9 +20,8 @@ use Rattle.driver_core.specs.Runs.Asking.{AsksFor}
 pub record PrintPromises (words : List (List ℕ)) (o : Outsides) (err : Outside) (status : ℕ) : Type 0 where
   -- A valid job prints unless something outside fails or memory runs out: its stream has a clean end, and no page
   -- goes past the cap of a meter.
-  pub valid : (job : Job) (p : Printer) (bytes : List ℕ) (pages : List Page) → AsksFor words o.shelf.told verb.Print job (Ok p)
-      → o.input.before ≡ Some bytes → stream (wanted_by p) bytes ≡ record { pages = pages; end = Done }
-      → Admitted p (table_of job.kernel) pages (metered job o.meters).before → NothingFailed o → (status ≡ 0) ⊎ (status ≡ 7)
+  pub valid : (job : Job) (p : Printer) → AsksFor words o.shelf.told verb.Print job (Ok p) → (HasFailed o.shelf → ⊥)
+      → AnswersBy IsValid 0 p (table_of job.kernel) o.input o.out (metered job o.meters) status
   -- On 0 all pages of the input are printed: the bytes that were written print exactly their dots. Each meter counted
   -- them.
   pub printed : (job : Job) (p : Printer) → AsksFor words o.shelf.told verb.Print job (Ok p) → status ≡ 0
@@ -38,11 +33,8 @@ pub record PrintPromises (words : List (List ℕ)) (o : Outsides) (err : Outside
       × (meets : MeetsFault (way_of job) p (table_of job.kernel) o.input o.out page line cause)
       × CountsPages p (table_of job.kernel) (metered job o.meters) meets.pages
       × Tells err (answer.Input page line cause)
-  pub refused : (job : Job) (p : Printer) (bytes : List ℕ) (pages : List Page) (page line : ℕ) (cause : InputCause)
-      → AsksFor words o.shelf.told verb.Print job (Ok p)
-      → o.input.before ≡ Some bytes → stream (wanted_by p) bytes ≡ record { pages = pages; end = Fault page line cause }
-      → Admitted p (table_of job.kernel) pages (metered job o.meters).before
-      → NothingFailed o → (status ≡ 3) ⊎ (status ≡ 7)
+  pub refused : (job : Job) (p : Printer) → AsksFor words o.shelf.told verb.Print job (Ok p) → (HasFailed o.shelf → ⊥)
+      → AnswersBy IsFaulty 3 p (table_of job.kernel) o.input o.out (metered job o.meters) status
   -- On 4 all whole pages of what was read were written and counted, and nothing else; what was read has no fault but
   -- one that more bytes could mend, or is fewer than four bytes.
   pub stopped : (job : Job) (p : Printer) → AsksFor words o.shelf.told verb.Print job (Ok p) → status ≡ 4
@@ -66,9 +58,5 @@ pub record PrintPromises (words : List (List ℕ)) (o : Outsides) (err : Outside
       × GoesOver (way_of job) p (table_of job.kernel) o.input o.out (metered job o.meters) page total dots cap
       × Tells err (answer.OverCap page total dots cap)
   -- The first page that goes past a cap is refused, whatever follows it.
-  pub capped : (job : Job) (p : Printer) (bytes : List ℕ) (pages later : List Page) (page : Page) (end : StreamEnd)
-      → AsksFor words o.shelf.told verb.Print job (Ok p) → o.input.before ≡ Some bytes
-      → stream (wanted_by p) bytes ≡ record { pages = pages ++ page ∷ later; end = end }
-      → (let before : List Account = (metered job o.meters).before in
-      (All (HasRoom (page_dots page p (table_of job.kernel))) (counted p (table_of job.kernel) pages before) → ⊥))
-      → NothingFailed o → (status ≡ 6) ⊎ (status ≡ 7)
+  pub capped : (job : Job) (p : Printer) → AsksFor words o.shelf.told verb.Print job (Ok p) → (HasFailed o.shelf → ⊥)
+      → AnswersBy IsCapped 6 p (table_of job.kernel) o.input o.out (metered job o.meters) status

@@ -36,15 +36,14 @@ abbrev pub metered : Job → Meters → Meters
 metered job meters = record { before = with_cap job.cap meters.before; now = meters.now }
 
 -- the outcome of a command with its profile, on meters whose caps are set
-abbrev pub VerbOutcome : Verb → Job → Printer → Outsides → Meters → Answer → Type 0
-VerbOutcome verb.Print job p o meters a = PrintOutcome (way_of job) p (table_of job.kernel) o.input o.out meters a
-VerbOutcome verb.Dots job p o meters a =
-    (meters.now ≡ meters.before) × PlayOutcome p job.most o.input o.out a
-VerbOutcome verb.List job p o meters a = ⊥
-VerbOutcome verb.Profile job p o meters a =
-    Keeps o.input.before o.input.now × (meters.now ≡ meters.before) × ShowOutcome p o.out a
-VerbOutcome verb.Trial job p o meters a =
-    Keeps o.input.before o.input.now × (meters.now ≡ meters.before) × TrialOutcome job p o.out a
+abbrev pub VerbOutcome : Verb → Job → Printer → Outside → Outside → Meters → Answer → Type 0
+VerbOutcome verb.Print job p input out meters a = PrintOutcome (way_of job) p (table_of job.kernel) input out meters a
+VerbOutcome verb.Dots job p input out meters a = (meters.now ≡ meters.before) × PlayOutcome p job.most input out a
+VerbOutcome verb.List job p input out meters a = ⊥
+VerbOutcome verb.Profile job p input out meters a =
+    Keeps input.before input.now × (meters.now ≡ meters.before) × ShowOutcome p out a
+VerbOutcome verb.Trial job p input out meters a =
+    Keeps input.before input.now × (meters.now ≡ meters.before) × TrialOutcome job p out a
 
 -- why there is no profile of a name for a job
 abbrev pub ProfileStopped : Job → List ℕ → Texts → ProfileStop → Type 0
@@ -69,7 +68,7 @@ pub record NoProfile (name : List ℕ) (job : Job) (o : Outsides) (a : Answer) :
 pub record WithProfile (name : List ℕ) (job : Job) (o : Outsides) (a : Answer) : Type 0 where
   pub p : Printer
   pub is : IsProfileOf job o.shelf.told name (Ok p)
-  pub outcome : VerbOutcome job.verb job p o (metered job o.meters) a
+  pub outcome : VerbOutcome job.verb job p o.input o.out (metered job o.meters) a
 
 -- The commands of the job in the input were listed; that takes no profile.
 pub record ListsJob (job : Job) (o : Outsides) (a : Answer) : Type 0 where

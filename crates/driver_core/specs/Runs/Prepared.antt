@@ -1,7 +1,5 @@
 -- Commands that can be done, and what doing them comes to.
 use Rattle.std.specs.Prelude.{◌≡◌, ℕ, ◌<◌, ◌≤◌, ◌^◌, List, Option, Ok, IsOk}
-use Rattle.std.specs.Io.KnownBytes.{Keeps}
-use Rattle.diffusion_kernel.specs.Tables.{table_of}
 use Rattle.driver_answer.specs.declared.answer.Answer.{Answer}
 use Rattle.job_words.specs.declared.reading.Job.{Job}
 use Rattle.job_words.specs.declared.table.Verb.{Verb}
@@ -14,11 +12,8 @@ use Rattle.driver_core.specs.declared.preparing.Prepared.{Prepared}
 use Rattle.driver_core.specs.declared.preparing.Prepared.TheVariants as prepared
 use Rattle.driver_core.specs.Listing.Outcome.{ListOutcome}
 use Rattle.driver_core.specs.Outside.{Meters, Outside}
-use Rattle.driver_core.specs.Playing.Outcome.{PlayOutcome}
-use Rattle.driver_core.specs.Printing.Outcome.{PrintOutcome}
 use Rattle.driver_core.specs.Runs.Fitting.{IsProfileOf, way_of}
-use Rattle.driver_core.specs.Showing.Outcome.{ShowOutcome}
-use Rattle.driver_core.specs.Trying.Outcome.{TrialOutcome}
+use Rattle.driver_core.specs.Runs.Outcome.{VerbOutcome}
 use Rattle.job_words.specs.Jobs.{IsWithinBounds}
 use Rattle.page_definitions.specs.Ways.{CanGo}
 
@@ -60,13 +55,10 @@ IsReady (prepared.List job) = job.most < 2 ^ 63
 IsReady (prepared.Profile job p) = Unit {0}
 IsReady (prepared.Trial job p) = CanBePrinted job p × IsWithinBounds job
 
--- The outcome of a prepared command. Only printing counts.
+-- The outcome of a prepared command.
 abbrev pub DoneOutcome : Prepared → Outside → Outside → Meters → Answer → Type 0
-DoneOutcome (prepared.Print job p) input out meters a = PrintOutcome (way_of job) p (table_of job.kernel) input out meters a
-DoneOutcome (prepared.Dots job p) input out meters a =
-    (meters.now ≡ meters.before) × PlayOutcome p job.most input out a
+DoneOutcome (prepared.Print job p) input out meters a = VerbOutcome verb.Print job p input out meters a
+DoneOutcome (prepared.Dots job p) input out meters a = VerbOutcome verb.Dots job p input out meters a
 DoneOutcome (prepared.List job) input out meters a = (meters.now ≡ meters.before) × ListOutcome job.most input out a
-DoneOutcome (prepared.Profile job p) input out meters a =
-    Keeps input.before input.now × (meters.now ≡ meters.before) × ShowOutcome p out a
-DoneOutcome (prepared.Trial job p) input out meters a =
-    Keeps input.before input.now × (meters.now ≡ meters.before) × TrialOutcome job p out a
+DoneOutcome (prepared.Profile job p) input out meters a = VerbOutcome verb.Profile job p input out meters a
+DoneOutcome (prepared.Trial job p) input out meters a = VerbOutcome verb.Trial job p input out meters a

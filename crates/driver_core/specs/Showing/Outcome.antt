@@ -14,9 +14,4 @@ abbrev pub ShowOutcome : Printer → Outside → Answer → Type 0
 ShowOutcome p out answer.Done = Appends out.before out.now (profile_text_of p)
 ShowOutcome p out (answer.Write page) = (page ≡ 0) × HasRisen out × AppendsPart out.before out.now (profile_text_of p)
 ShowOutcome p out answer.Memory = Keeps out.before out.now
-ShowOutcome p out (answer.Usage fault) = ⊥
-ShowOutcome p out (answer.Profile line cause) = ⊥
-ShowOutcome p out (answer.Input page line cause) = ⊥
-ShowOutcome p out answer.Read = ⊥
-ShowOutcome p out (answer.OverCap page total dots cap) = ⊥
-ShowOutcome p out (answer.Job offset cause) = ⊥
+ShowOutcome p out other = ⊥

@@ -81,8 +81,4 @@ TrialOutcome job p out (answer.Input page line found) = IsMadeFault job p page l
 TrialOutcome job p out (answer.Write page) =
     (page ≡ 0) × PrintsMade job p × HasRisen out × AppendsPart out.before out.now (job_summary job p)
 TrialOutcome job p out answer.Memory = Keeps out.before out.now
-TrialOutcome job p out answer.Read = ⊥
-TrialOutcome job p out (answer.Usage fault) = ⊥
-TrialOutcome job p out (answer.Profile line why) = ⊥
-TrialOutcome job p out (answer.OverCap page total dots cap) = ⊥
-TrialOutcome job p out (answer.Job offset why) = ⊥
+TrialOutcome job p out other = ⊥

@@ -1,12 +1,12 @@
 //! Printing one stream.
 ghost use Rattle.diffusion_kernel.specs.Tables.{table_of};
 ghost use Rattle.driver_answer.specs.Answers.{status_of};
-ghost use Rattle.driver_core.specs.Outside.{IsCalm, meters_of, outside_of};
-ghost use Rattle.driver_core.specs.Printing.One.{IsCapped, IsFaulty, IsValid};
+ghost use Rattle.driver_core.specs.Outside.{meters_of, outside_of};
+ghost use Rattle.driver_core.specs.Printing.One.{AnswersBy, IsCapped, IsFaulty, IsValid};
 ghost use Rattle.driver_core.specs.Printing.Outcome.{PrintedOutcome};
 ghost use Rattle.driver_core.specs.Runs.Fitting.{way_of};
 ghost use Rattle.driver_core.specs.Runs.Prepared.{CanBePrinted};
-ghost use Rattle.std.specs.Prelude.{◌⊎◌, ◌≡◌, ◌≤◌};
+ghost use Rattle.std.specs.Prelude.{◌≤◌};
 
 use crate::answers::answer_to;
 use crate::print::print_pages;
@@ -49,21 +49,18 @@ pub fn print_one<R: Threads + Sync, S: Source, K: Sink, G: Gate + Sync>(
     ensures later { K.faults out.old ≤ K.faults out.new }
     // Where nothing outside fails, a valid stream is printed, a faulty one refused, and a page that goes past a cap
     // too, unless memory runs out.
-    ensures valid { IsValid profile.now (table_of job.now.kernel)
+    ensures valid { AnswersBy IsValid 0 profile.now (table_of job.now.kernel)
         (outside_of S.left S.faults input.old input.new)
-        (meters_of (λ meter. account meter) meters.old.items meters.new.items)
-        → IsCalm (outside_of S.left S.faults input.old input.new) → IsCalm (outside_of K.held K.faults out.old out.new)
-        → (status_of result.answer ≡ 0) ⊎ (status_of result.answer ≡ 7) }
-    ensures refused { IsFaulty profile.now (table_of job.now.kernel)
+        (outside_of K.held K.faults out.old out.new)
+        (meters_of (λ meter. account meter) meters.old.items meters.new.items) (status_of result.answer) }
+    ensures refused { AnswersBy IsFaulty 3 profile.now (table_of job.now.kernel)
         (outside_of S.left S.faults input.old input.new)
-        (meters_of (λ meter. account meter) meters.old.items meters.new.items)
-        → IsCalm (outside_of S.left S.faults input.old input.new) → IsCalm (outside_of K.held K.faults out.old out.new)
-        → (status_of result.answer ≡ 3) ⊎ (status_of result.answer ≡ 7) }
-    ensures capped { IsCapped profile.now (table_of job.now.kernel)
+        (outside_of K.held K.faults out.old out.new)
+        (meters_of (λ meter. account meter) meters.old.items meters.new.items) (status_of result.answer) }
+    ensures capped { AnswersBy IsCapped 6 profile.now (table_of job.now.kernel)
         (outside_of S.left S.faults input.old input.new)
-        (meters_of (λ meter. account meter) meters.old.items meters.new.items)
-        → IsCalm (outside_of S.left S.faults input.old input.new) → IsCalm (outside_of K.held K.faults out.old out.new)
-        → (status_of result.answer ≡ 6) ⊎ (status_of result.answer ≡ 7) }
+        (outside_of K.held K.faults out.old out.new)
+        (meters_of (λ meter. account meter) meters.old.items meters.new.items) (status_of result.answer) }
 {
     let team = Team {
         threads,

@@ -1,4 +1,5 @@
-use Rattle.std.proofs.Common.{ℕ, Err, Option, arith, ap, subst, sym, ◌∙◌}
+use Rattle.std.proofs.Common.{ℕ, Err, Option, [], ◌∷◌, ◌++◌, arith, ap, subst, sym, ◌∙◌}
+use Rattle.std.proofs.KnownBytes.{Keeps-refl}
 use Rattle.std.proofs.lemmas.Result.{err_from_is_err_and}
 use Rattle.diffusion_kernel.specs.Tables.{table_of}
 use Rattle.halftone_reader.specs.declared.pages.HalftonedPage.{HalftonedPage}
@@ -7,23 +8,30 @@ use Rattle.page_writer.specs.AtMost.{AppendsAtMost}
 use Rattle.printer_definitions.specs.Printer.{Printer}
 use Rattle.pwg_definitions.specs.declared.pages.PageForm.{PageForm}
 use Rattle.separation_definitions.specs.Windows.{wanted_by, window_of}
+use Rattle.driver_core.specs.Outside.{outside_of}
 use Rattle.driver_core.specs.Runs.Fitting.{way_of}
 use Rattle.driver_core.proofs.Printing.Ends.{can_go, no_sync, page_over, page-bytes-is, page-wanted, page_not_written}
 use Rattle.driver_core.proofs.Printing.Ends.{page_stopped, page_without_room, stream_done}
-use Rattle.driver_core.proofs.Printing.Counting.{dots_counted}
-use Rattle.driver_core.proofs.Printing.StreamSteps.{metered_begin, metered_read, metered_written, page_counted}
+use Rattle.driver_core.proofs.Printing.Counting.{dots_counted, none_counted}
+use Rattle.driver_core.proofs.Printing.StreamSteps.{next_read, page_counted, stream_begin, stream_written}
 use Rattle.driver_core.proofs.print.pages.print_pages.Goals as goal
 
 pub returns-in-Err-clause-outcome : goal.returns-in-Err-clause-outcome
 returns-in-Err-clause-outcome g c =
     rw c.stream_answer.ensures
-    (no_sync (way_of c.args.job.now) c.args.profile.now (table_of c.args.job.now.kernel) _ _ _ _ c.in-Err.stop
+    (no_sync (way_of c.args.job.now) c.args.profile.now (table_of c.args.job.now.kernel)
+    (outside_of g.S.Source.left g.S.Source.faults c.args.input.now c.begin.new.source)
+    (outside_of g.K.Sink.held g.K.Sink.faults c.args.out.now c.args.out.now) _ c.in-Err.stop (Keeps-refl (g.K.Sink.held c.args.out.now))
     c.in-Err.ensures.input c.in-Err.ensures.place c.in-Err.ensures.read c.in-Err.ensures.taken c.in-Err.ensures.used)
 
 pub pages-init : goal.pages-init
 pages-init g c = record {
-  stream = metered_begin c.in-Ok.reader c.in-Ok.ensures.sync c.in-Ok.ensures.none.0
-      (record { whole = c.in-Ok.ensures.none.1; going = c.in-Ok.ensures.going }) c.in-Ok.ensures.none.2;
+  stream = (
+    [],
+    stream_begin c.in-Ok.reader c.in-Ok.ensures.sync c.in-Ok.ensures.none.0
+        (record { whole = c.in-Ok.ensures.none.1; going = c.in-Ok.ensures.going }) c.in-Ok.ensures.none.2,
+    none_counted c.args.profile.now (table_of c.args.job.now.kernel) _,
+  );
   whole = omega arith;
   read_later = c.begin.ensures.later;
   written_later = omega arith;
@@ -32,20 +40,20 @@ pages-init g c = record {
 pub returns-in-Err-read_page-clause-outcome : goal.returns-in-Err-read_page-clause-outcome
 returns-in-Err-read_page-clause-outcome g c =
     rw c.stream_answer-in-Err-read_page.ensures
-    (page_stopped (Option HalftonedPage) (way_of c.args.job.now) c.args.profile.now (table_of c.args.job.now.kernel)
-    _ c.pages.reader c.read_page.new.reader c.pages.number c.pages.pages _ _ c.in-Err-read_page.stop
+    (page_stopped (Option HalftonedPage) (outside_of g.S.Source.left g.S.Source.faults c.args.input.now c.read_page.new.source)
+    (outside_of g.K.Sink.held g.K.Sink.faults c.args.out.now c.pages.out) c.read_page.new.reader c.pages.pages c.in-Err-read_page.stop
     (can_go (way_of c.args.job.now) c.profile.view_is (omega (arith, c.if-prove.false)) c.requires.checked c.requires.way)
-    c.pages.invariant.stream.0 c.pages.invariant.whole c.pages.invariant.stream.1
+    c.pages.invariant.stream.1 c.pages.invariant.whole c.pages.invariant.stream.2
     c.in-Err-read_page.ensures.input c.in-Err-read_page.ensures.place c.pages.invariant.read_later
     c.in-Err-read_page.ensures.read c.in-Err-read_page.ensures.taken c.read_page.ensures.used)
 
 pub returns-in-Ok-None-clause-outcome : goal.returns-in-Ok-None-clause-outcome
 returns-in-Ok-None-clause-outcome g c =
     let end = rw c.in-Ok-None.field-0-is at c.in-Ok-None.ensures.none in
-    stream_done (way_of c.args.job.now) c.args.profile.now (table_of c.args.job.now.kernel) c.pages.reader c.read_page.new.reader c.pages.number c.pages.pages
-    (g.S.Source.faults c.args.input.now) (g.S.Source.faults c.read_page.new.source) (g.K.Sink.faults c.args.out.now)
-    (g.K.Sink.faults c.pages.out) (can_go (way_of c.args.job.now) c.profile.view_is (omega (arith, c.if-prove.false)) c.requires.checked c.requires.way)
-    c.pages.invariant.stream.0 c.pages.invariant.whole c.pages.invariant.stream.1 end.0 end.1 c.read_page.ensures.used
+    stream_done (outside_of g.S.Source.left g.S.Source.faults c.args.input.now c.read_page.new.source)
+    (outside_of g.K.Sink.held g.K.Sink.faults c.args.out.now c.pages.out) c.read_page.new.reader c.pages.pages
+    (can_go (way_of c.args.job.now) c.profile.view_is (omega (arith, c.if-prove.false)) c.requires.checked c.requires.way)
+    c.pages.invariant.stream.1 c.pages.invariant.whole c.pages.invariant.stream.2 end.0 end.1 c.read_page.ensures.used
 
 pub write_by_way-requires-clause-wanted : goal.write_by_way-requires-clause-wanted
 write_by_way-requires-clause-wanted g c κs within =
@@ -70,7 +78,7 @@ write_by_way-requires-clause-inks g c κs within =
 pub returns-in-Err-Write-clause-outcome : goal.returns-in-Err-Write-clause-outcome
 returns-in-Err-Write-clause-outcome g c =
     let halftoned = rw c.in-Ok-Some.field-0-is at c.in-Ok-Some.ensures.page in
-    let counted = page_counted c.pages.reader c.read_page.new.reader c.pages.number c.count_inks.result c.pages.invariant.stream halftoned
+    let counted = page_counted c.count_inks.result c.pages.invariant.stream halftoned
     (rw c.in-Ok-Some.field-0-is at c.in-Ok-Some.ensures.between) c.profile.view_is c.count_inks.ensures.dots
     c.in_ok-charge.ensures.room c.in_ok-charge.ensures.counted in
     let part = rw (page-bytes-is (way_of c.args.job.now) halftoned) at
@@ -78,8 +86,8 @@ returns-in-Err-Write-clause-outcome g c =
     let p : Printer = c.args.profile.now in
     let P : ℕ → Type 0 = λ rows.
     AppendsAtMost (most_rasters (way_of c.args.job.now) p rows) (g.K.Sink.held c.pages.out) (g.K.Sink.held c.write_by_way.new.out) in
-    page_not_written c.read_page.new.reader c.pages.number c.pages.pages
-    (g.S.Source.faults c.args.input.now) (g.S.Source.faults c.read_page.new.source) halftoned.page
+    page_not_written (outside_of g.S.Source.left g.S.Source.faults c.args.input.now c.read_page.new.source)
+    (outside_of g.K.Sink.held g.K.Sink.faults c.args.out.now c.write_by_way.new.out) c.pages.pages
     (can_go (way_of c.args.job.now) c.profile.view_is (omega (arith, c.if-prove.false)) c.requires.checked c.requires.way)
     counted.0 c.pages.invariant.whole counted.1 part
     (subst P halftoned.dots.rows_is (c.in-Err-Write.ensures.few _ halftoned.dots)) c.pages.invariant.written_later
@@ -88,25 +96,27 @@ returns-in-Err-Write-clause-outcome g c =
 pub returns-in-Err-Memory-clause-outcome : goal.returns-in-Err-Memory-clause-outcome
 returns-in-Err-Memory-clause-outcome g c =
     let halftoned = rw c.in-Ok-Some.field-0-is at c.in-Ok-Some.ensures.page in
-    let counted = page_counted c.pages.reader c.read_page.new.reader c.pages.number c.count_inks.result c.pages.invariant.stream halftoned
+    let counted = page_counted c.count_inks.result c.pages.invariant.stream halftoned
     (rw c.in-Ok-Some.field-0-is at c.in-Ok-Some.ensures.between) c.profile.view_is c.count_inks.ensures.dots
     c.in_ok-charge.ensures.room c.in_ok-charge.ensures.counted in
-    page_without_room c.read_page.new.reader c.pages.number c.pages.pages
-    (g.S.Source.faults c.args.input.now) (g.S.Source.faults c.read_page.new.source)
-    (g.K.Sink.faults c.args.out.now) (g.K.Sink.faults c.write_by_way.new.out) halftoned.page
+    page_without_room (outside_of g.S.Source.left g.S.Source.faults c.args.input.now c.read_page.new.source)
+    (outside_of g.K.Sink.held g.K.Sink.faults c.args.out.now c.write_by_way.new.out) c.pages.pages
     (can_go (way_of c.args.job.now) c.profile.view_is (omega (arith, c.if-prove.false)) c.requires.checked c.requires.way)
     counted.0 c.pages.invariant.whole counted.1 (c.in-Err-Memory.ensures.memory (ap Err c.in-Err-Memory.field-0-is))
 
 pub pages-preserved : goal.pages-preserved
 pages-preserved g c =
     let halftoned = rw c.in-Ok-Some.field-0-is at c.in-Ok-Some.ensures.page in
-    let counted = page_counted c.pages.reader c.read_page.new.reader c.pages.number c.count_inks.result c.pages.invariant.stream halftoned
+    let counted = page_counted c.count_inks.result c.pages.invariant.stream halftoned
     (rw c.in-Ok-Some.field-0-is at c.in-Ok-Some.ensures.between) c.profile.view_is c.count_inks.ensures.dots
     c.in_ok-charge.ensures.room c.in_ok-charge.ensures.counted in
     record {
-      stream = metered_written (way_of c.args.job.now) c.args.profile.now (table_of c.args.job.now.kernel)
-          c.read_page.new.reader c.pages.number halftoned.page counted.0 counted.1
-          (rw (page-bytes-is (way_of c.args.job.now) halftoned) at (c.in-Ok-write_by_way.ensures.ok _ halftoned.dots));
+      stream = (
+        c.pages.invariant.stream.0 ++ halftoned.page ∷ [],
+        stream_written (g.K.Sink.held c.write_by_way.new.out) counted.0
+            (rw (page-bytes-is (way_of c.args.job.now) halftoned) at (c.in-Ok-write_by_way.ensures.ok _ halftoned.dots)),
+        counted.1,
+      );
       whole = omega arith;
       read_later = omega (arith, c.pages.invariant.read_later, c.read_page.ensures.later);
       written_later = omega (arith, c.pages.invariant.written_later, c.write_by_way.ensures.later);
@@ -114,14 +124,12 @@ pages-preserved g c =
 
 pub returns-in_err-charge-clause-outcome : goal.returns-in_err-charge-clause-outcome
 returns-in_err-charge-clause-outcome g c =
-    let k = table_of c.args.job.now.kernel in
     let halftoned = rw c.in-Ok-Some.field-0-is at c.in-Ok-Some.ensures.page in
-    let read = metered_read (way_of c.args.job.now) c.args.profile.now k c.pages.reader c.read_page.new.reader c.pages.number
-    halftoned.page c.pages.invariant.stream halftoned.reads (rw c.in-Ok-Some.field-0-is at c.in-Ok-Some.ensures.between) in
-    let are = dots_counted k _ halftoned.page c.count_inks.result c.profile.view_is halftoned.dots c.count_inks.ensures.dots in
+    let read = next_read c.pages.invariant.stream.1 halftoned.reads (rw c.in-Ok-Some.field-0-is at c.in-Ok-Some.ensures.between) in
+    let are = dots_counted (table_of c.args.job.now.kernel) _ halftoned.page c.count_inks.result c.profile.view_is halftoned.dots c.count_inks.ensures.dots in
     let error = err_from_is_err_and c.from_residual.result c.from_residual.ensures.1 in
-    rw (error.1, error.2) (page_over c.read_page.new.reader c.pages.number c.pages.pages
-    (g.S.Source.faults c.args.input.now) (g.S.Source.faults c.read_page.new.source) (g.K.Sink.faults c.args.out.now)
-    (g.K.Sink.faults c.pages.out) halftoned.page c.count_inks.result c.in_err-charge.field-0.0
+    rw (error.1, error.2)
+    (page_over (outside_of g.S.Source.left g.S.Source.faults c.args.input.now c.read_page.new.source)
+    (outside_of g.K.Sink.held g.K.Sink.faults c.args.out.now c.pages.out) c.pages.pages c.in_err-charge.field-0.0
     (can_go (way_of c.args.job.now) c.profile.view_is (omega (arith, c.if-prove.false)) c.requires.checked c.requires.way)
-    read.0 c.pages.invariant.whole read.1 are c.in_err-charge.ensures.over c.in_err-charge.ensures.kept)
+    read c.pages.invariant.whole c.pages.invariant.stream.2 are c.in_err-charge.ensures.over c.in_err-charge.ensures.kept)

@@ -4,7 +4,7 @@ use Rattle.std.proofs.lemmas.Result.{err_from_is_err_and}
 use Rattle.separation_definitions.specs.CanPrint.{CanPrint}
 use Rattle.weave_base.specs.Parts.{AppendsPart}
 use Rattle.driver_core.specs.Outside.{Outside, outside_of}
-use Rattle.driver_core.proofs.Runs.Asked.{keeps}
+use Rattle.std.proofs.KnownBytes.{Keeps-refl}
 use Rattle.driver_core.proofs.Trying.Made.{ReadsMade, reads_made, stands_for, trial_line, trial_stopped}
 use Rattle.driver_core.proofs.trial.pages.try_pages.Goals as goal
 
@@ -16,7 +16,7 @@ returns-in_err-totals g c =
     let reads : ReadsMade c.args.job.now c.args.profile.now =
     reads_made c.args.job.now c.args.profile.now c.requires.made can in
     rw error.1 (trial_stopped c.args.job.now c.args.profile.now out error.0 reads
-    (rw (← error.2) at c.in_err-totals.ensures.err) (keeps (g.K.Sink.held c.args.out.now)))
+    (rw (← error.2) at c.in_err-totals.ensures.err) (Keeps-refl (g.K.Sink.held c.args.out.now)))
 
 pub returns-in-Ok-write_summary : goal.returns-in-Ok-write_summary
 returns-in-Ok-write_summary g c =
