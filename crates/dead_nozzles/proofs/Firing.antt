@@ -1,6 +1,7 @@
 -- How often a stroke and the regular strokes fire a row.
-use Rattle.std.proofs.Common.{◌≡◌, ◌≢◌, ℕ, ◌+◌, ◌-◌, ◌*◌, ◌<◌, ◌≤◌, Bool, true, false, cond, not, ◌&&◌, ◌||◌, ◌==◌, inl, inr, ◌⊎◌}
-use Rattle.std.proofs.Common.{List, [], ◌∷◌, map, Option, None, Some, refl, sym, ◌∙◌, ap, subst, arith, nat_lt, nat_le, if◌then◌else◌}
+use Rattle.std.proofs.lemmas.Grind.{common_steps}
+use Rattle.std.proofs.Common.{◌≡◌, ◌≢◌, ℕ, ◌+◌, ◌-◌, ◌*◌, ◌<◌, ◌≤◌, Bool, true, false, ◌&&◌, ◌||◌, ◌==◌, inl, inr, ◌⊎◌}
+use Rattle.std.proofs.Common.{List, [], ◌∷◌, map, Some, refl, sym, ◌∙◌, subst, arith, if◌then◌else◌}
 use Rattle.std.proofs.Math.Nat.{mul-le-mul_right}
 use Rattle.std.proofs.lemmas.Bool.{cases_eq, not-true, eq-eqb, eqb-true, and_from, cases_lt, le-leb, leb-true, lt-ltb, ltb-true}
 use Rattle.std.specs.Int.{IsGcd}
@@ -20,34 +21,17 @@ count y shots = count_by (λ (s : Shot). s.row == y) shots
 
 pub fired-none : (y : ℕ) (shots : List Shot) → is_fired shots y ≡ false → count y shots ≡ 0
 fired-none y [] e = refl
-fired-none y (s ∷ shots) e = by_first (s.row == y) (fired-none y shots) refl e
-  where
-    by_first : (b : Bool) → (is_fired shots y ≡ false → count y shots ≡ 0) → (s.row == y) ≡ b → (b || is_fired shots y) ≡ false → count y (s ∷ shots) ≡ 0
-    by_first true later es e = cc
-    by_first false later es e =
-        omega (arith, count-cons (λ (s : Shot). s.row == y) s shots, ap {B = ℕ} (λ b. cond b 1 0) es, later e)
+fired-none y (s ∷ shots) e = grind (arith, count, count-cons, fired-none y shots)
 
 pub fired-some : (y : ℕ) (shots : List Shot) → is_fired shots y ≡ true → 1 ≤ count y shots
 fired-some y [] e = cc
-fired-some y (s ∷ shots) e = by_first (s.row == y) (fired-some y shots) refl e
-  where
-    by_first : (b : Bool) → (is_fired shots y ≡ true → 1 ≤ count y shots) → (s.row == y) ≡ b → (b || is_fired shots y) ≡ true → 1 ≤ count y (s ∷ shots)
-    by_first true later es e = omega (arith, count-cons (λ (s : Shot). s.row == y) s shots, ap {B = ℕ} (λ b. cond b 1 0) es)
-    by_first false later es e = omega (arith, count-cons (λ (s : Shot). s.row == y) s shots, later e)
+fired-some y (s ∷ shots) e = grind (arith, common_steps, count, count-cons, fired-some y shots)
 
 pub is-fired : (y : ℕ) (shots : List Shot) → count y shots ≡ 1 → is_fired shots y ≡ true
-is-fired y shots e = by_test (is_fired shots y) refl
-  where
-    by_test : (b : Bool) → is_fired shots y ≡ b → b ≡ true
-    by_test true eb = refl
-    by_test false eb = absurd (omega (arith, e, fired-none y shots eb))
+is-fired y shots e = grind (arith, fired-none)
 
 pub not-fired : (y : ℕ) (shots : List Shot) → count y shots ≡ 0 → is_fired shots y ≡ false
-not-fired y shots e = by_test (is_fired shots y) refl
-  where
-    by_test : (b : Bool) → is_fired shots y ≡ b → b ≡ false
-    by_test true eb = absurd (omega (arith, e, fired-some y shots eb))
-    by_test false eb = refl
+not-fired y shots e = grind (arith, fired-some)
 
 -- ---- one nozzle in one stroke
 
@@ -57,33 +41,10 @@ pub record Over (h : Head) (start i y : ℕ) : Type 0 where
   pub low : y < h.height
 
 pub over : (h : Head) (start i y : ℕ) → row_under h start i ≡ Some y → Over h start i y
-over h start i y e = by_test (nat_le first place) (nat_lt (place - first) h.height) refl refl e
-  where
-    place : ℕ
-    place = start + i * h.pitch
-
-    first : ℕ
-    first = head_rows h
-
-    by_test : (a b : Bool) → nat_le first place ≡ a → nat_lt (place - first) h.height ≡ b
-        → (if a && b then Some (place - first) else None) ≡ Some y → Over h start i y
-    by_test true true ea eb e =
-        let row : place - first ≡ y = cc in
-        let reached : first ≤ place = leb-true first place ea in
-        let inside : place - first < h.height = ltb-true (place - first) h.height eb in
-        record { place = omega arith; low = omega arith }
-    by_test true false ea eb e = cc
-    by_test false b ea eb e = cc
+over h start i y e = grind (arith, leb-true, ltb-true)
 
 pub under : (h : Head) (start i y : ℕ) → Over h start i y → row_under h start i ≡ Some y
-under h start i y o =
-    let place : ℕ = start + i * h.pitch in
-    let first : ℕ = head_rows h in
-    let same : place - first ≡ y = omega (arith, o.place) in
-    let reached : first ≤ place = omega (arith, o.place) in
-    let inside : place - first < h.height = omega (arith, o.place, o.low) in
-    ap (λ b. if b then Some (place - first) else None) (and_from _ _ (le-leb first place reached) (lt-ltb (place - first) h.height inside))
-    ∙ ap Some same
+under h start i y o = grind (arith, and_from, le-leb, lt-ltb)
 
 -- a live nozzle is over a row that is wanted
 pub record Hits (h : Head) (wanted : ℕ → Bool) (start y i : ℕ) : Type 0 where
@@ -93,61 +54,11 @@ pub record Hits (h : Head) (wanted : ℕ → Bool) (start y i : ℕ) : Type 0 wh
 
 shot-tells : (h : Head) (wanted : ℕ → Bool) (start y i : ℕ)
     → Tells (Hits h wanted start y) (λ i. count y (shot h wanted i (row_under h start i))) i
-shot-tells h wanted start y i = by_row (row_under h start i) refl
-  where
-    test : ℕ → Bool
-    test row = not (has h.dead i) && wanted row
-
-    by_row : (row : Option ℕ) → row_under h start i ≡ row
-        → (Hits h wanted start y i × (count y (shot h wanted i row) ≡ 1)) ⊎ ((Hits h wanted start y i → ⊥) × (count y (shot h wanted i row) ≡ 0))
-    by_row None e = inr (λ hit. let other : row_under h start i ≡ Some y = under h start i y hit.over in cc, refl)
-    by_row (Some row) e = by_test (test row) (row == y) refl refl
-      where
-        same : Hits h wanted start y i → row ≡ y
-        same hit = let both : Some row ≡ Some y = sym e ∙ under h start i y hit.over in cc
-
-        by_test : (b c : Bool) → (not (has h.dead i) && wanted row) ≡ b → (row == y) ≡ c
-            → (Hits h wanted start y i × (count y (cond b (record { nozzle = i; row = row } ∷ []) []) ≡ 1))
-            ⊎ ((Hits h wanted start y i → ⊥) × (count y (cond b (record { nozzle = i; row = row } ∷ []) []) ≡ 0))
-        by_test true true eb ec =
-            let is : row ≡ y = eqb-true row y ec in
-            let parts = both-true (not (has h.dead i)) (wanted row) eb in
-            inl (
-              record {
-                live = not-true (has h.dead i) parts.0;
-                is_wanted = ap wanted (sym is) ∙ parts.1;
-                over = over h start i y (e ∙ ap Some is);
-              },
-              ap {B = ℕ} (λ d. 0 + cond d 1 0) ec ∙ omega arith,
-            )
-        by_test true false eb ec =
-            inr (λ hit. let yes : (row == y) ≡ true = eq-eqb row y (same hit) in cc, ap {B = ℕ} (λ d. 0 + cond d 1 0) ec ∙ omega arith)
-        by_test false c eb ec =
-            inr (
-              λ hit. let all : (not (has h.dead i) && wanted row) ≡ true =
-                  ap (λ d. not d && wanted row) hit.live ∙ ap wanted (same hit) ∙ hit.is_wanted in cc,
-              refl,
-            )
+shot-tells h wanted start y i = grind (arith, both-true, count, eq-eqb, eqb-true, not-true, over, under)
 
 -- nozzles that stand over one row are one
 pub one-over : (h : Head) (start y : ℕ) → 1 ≤ h.pitch → (k l : ℕ) → Over h start k y → Over h start l y → k ≡ l
-one-over h start y near k l a b =
-    elim (cases_eq k l) [
-      | inl e ↦ e
-      | inr apart ↦ absurd (by_order apart)
-    ]
-  where
-    equal : k * h.pitch ≡ l * h.pitch
-    equal = omega (arith, a.place, b.place)
-
-    lower : (small big : ℕ) → small < big → small * h.pitch ≡ big * h.pitch → ⊥
-    lower small big less e =
-        let most : (small + 1) * h.pitch ≤ big * h.pitch = mul-le-mul_right h.pitch (omega arith) in
-        let spread : (small + 1) * h.pitch ≡ small * h.pitch + h.pitch = omega arith in
-        omega (arith, most, spread, e, near)
-
-    by_order : k ≢ l → ⊥
-    by_order apart = elim (cases_lt k l) [ inl less ↦ lower k l less equal | inr le ↦ lower l k (omega (arith, apart)) (sym equal) ]
+one-over h start y near k l a b = grind (arith, cases_eq, cases_lt, mul-le-mul_right)
 
 one-nozzle : (h : Head) (wanted : ℕ → Bool) (start y : ℕ) → 1 ≤ h.pitch → (k l : ℕ) → Hits h wanted start y k → Hits h wanted start y l → k ≡ l
 one-nozzle h wanted start y near k l a b = one-over h start y near k l a.over b.over

@@ -1,9 +1,9 @@
 -- Sums, counts and tests over lists.
 use Rattle.std.proofs.Common.{◌≡◌, ◌≢◌, ℕ, zero, suc, ◌+◌, ◌<◌, ◌≤◌, Bool, true, false, cond, ◌&&◌, ◌||◌, ◌==◌, inl, inr, ◌⊎◌}
-use Rattle.std.proofs.Common.{List, [], ◌∷◌, ◌++◌, map, refl, sym, ◌∙◌, ap, subst, arith}
+use Rattle.std.proofs.Common.{List, [], ◌∷◌, ◌++◌, map, refl, sym, ◌∙◌, ap, arith}
 use Rattle.std.proofs.lemmas.Bool.{cases_eq, eq-eqb, eqb-true}
 use Rattle.std.proofs.lemmas.List.Sums.{sum_by-append, sum_by-cons}
-use Rattle.std.specs.List.{AllByRecursion, count_by, filter, flat_map, list_any, sum_by}
+use Rattle.std.specs.List.{AllByRecursion, count_by, filter, flat_map, sum_by}
 use Rattle.base_definitions.specs.Counting.{count_from}
 use Rattle.dead_nozzles.specs.Dead.{has}
 
@@ -40,54 +40,13 @@ Tells P g k = (P k × (g k ≡ 1)) ⊎ ((P k → ⊥) × (g k ≡ 0))
 sum-none : (P : ℕ → Type 0) (g : ℕ → ℕ) (n many : ℕ) → ((k : ℕ) → Tells P g k) → ((k : ℕ) → n ≤ k → P k → ⊥)
     → sum_by g (count_from n many) ≡ 0
 sum-none P g n zero tells none = refl
-sum-none P g n (suc many) tells none =
-    elim (tells n) [
-      | inl found ↦ absurd (none n (omega arith) found.0)
-      | inr other ↦ omega (
-        arith,
-        other.1,
-        sum_by-cons g n (count_from (n + 1) many),
-        sum-none P g (n + 1) many tells (λ k from. none k (omega arith)),
-      )
-    ]
+sum-none P g n (suc many) tells none = grind (arith, sum_by-cons, sum-none P g (n + 1) many tells (λ k from. none k (omega arith)))
 
 -- where no two numbers have the property
 pub sum-tells : (P : ℕ → Type 0) (g : ℕ → ℕ) (n many : ℕ) → ((k : ℕ) → Tells P g k) → ((k l : ℕ) → P k → P l → k ≡ l)
     → One P (sum_by g (count_from n many)) n many ⊎ Nowhere P (sum_by g (count_from n many)) n many
 sum-tells P g n zero tells unique = inr (record { none = λ k from below p. absurd (omega arith); never = refl })
-sum-tells P g n (suc many) tells unique =
-    elim (tells n) [
-      | inl found ↦ inl (record {
-        at = n;
-        after = omega arith;
-        inside = omega arith;
-        has = found.0;
-        once = omega (
-          arith,
-          found.1,
-          sum_by-cons g n (count_from (n + 1) many),
-          sum-none P g (n + 1) many tells (λ k from p. let e : k ≡ n = unique k n p found.0 in omega arith),
-        );
-      })
-      | inr other ↦ elim (sum-tells P g (n + 1) many tells unique) [
-        | inl one ↦ inl (record {
-          at = one.at;
-          after = omega (arith, one.after);
-          inside = omega (arith, one.inside);
-          has = one.has;
-          once = omega (arith, other.1, sum_by-cons g n (count_from (n + 1) many), one.once);
-        })
-        | inr nowhere ↦ inr (record {
-          none = λ k from below p. by_first k from below p (cases_eq k n) other.0 nowhere.none;
-          never = omega (arith, other.1, sum_by-cons g n (count_from (n + 1) many), nowhere.never);
-        })
-      ]
-    ]
-  where
-    by_first : (k : ℕ) → n ≤ k → k < n + suc many → P k → (k ≡ n) ⊎ (k ≢ n) → (P n → ⊥)
-        → ((l : ℕ) → n + 1 ≤ l → l < n + 1 + many → P l → ⊥) → ⊥
-    by_first k from below p (inl e) never none = never (subst (λ m. P m) e p)
-    by_first k from below p (inr apart) never none = none k (omega (arith, apart)) (omega arith) p
+sum-tells P g n (suc many) tells unique = grind (arith, cases_eq, sum-none, sum_by-cons, sum-tells P g (n + 1) many tells unique)
 
 -- ---- tests
 
@@ -103,28 +62,7 @@ or-right false b e = e
 -- a list has what a longer one has that passes the test
 pub has-filter : (test : ℕ → Bool) (xs : List ℕ) (y : ℕ) → has (filter test xs) y ≡ (has xs y && test y)
 has-filter test [] y = refl
-has-filter test (x ∷ xs) y = by_test (test x) (x == y) (has-filter test xs y) refl refl
-  where
-    past : (b : Bool) → (false || b) ≡ b
-    past b = refl
-
-    kept : (b c : Bool) → c ≡ true → (true || b) ≡ ((true || b) && c)
-    kept b c e = sym e
-
-    lost : (b c : Bool) → c ≡ false → (b && c) ≡ ((true || b) && c)
-    lost true c e = refl
-    lost false c e = sym e
-
-    by_test : (b c : Bool) → has (filter test xs) y ≡ (has xs y && test y) → test x ≡ b → (x == y) ≡ c
-        → list_any (λ other. other == y) (cond b (x ∷ filter test xs) (filter test xs)) ≡ ((c || has xs y) && test y)
-    by_test true true later eb ec =
-        let same : test y ≡ true = ap test (sym (eqb-true x y ec)) ∙ eb in
-        ap (λ d. d || has (filter test xs) y) ec ∙ kept (has xs y) (test y) same
-    by_test true false later eb ec = ap (λ d. d || has (filter test xs) y) ec ∙ later
-    by_test false true later eb ec =
-        let same : test y ≡ false = ap test (sym (eqb-true x y ec)) ∙ eb in
-        later ∙ lost (has xs y) (test y) same
-    by_test false false later eb ec = later
+has-filter test (x ∷ xs) y = grind (arith, eqb-true, has-filter test xs y)
 
 pub has-inside : (n many y : ℕ) → n ≤ y → y < n + many → has (count_from n many) y ≡ true
 has-inside n zero y from below = absurd (omega arith)
@@ -148,11 +86,7 @@ has-outside n (suc many) y e = by_first (n == y) (λ all. has-outside (n + 1) ma
 
 pub all-has : (P : ℕ → Type 0) (rows : List ℕ) (y : ℕ) → AllByRecursion P rows → has rows y ≡ true → P y
 all-has P [] y all e = cc
-all-has P (row ∷ rows) y all e = by_first (row == y) (all-has P rows y all.1) refl e
-  where
-    by_first : (b : Bool) → (has rows y ≡ true → P y) → (row == y) ≡ b → (b || has rows y) ≡ true → P y
-    by_first true later eb e = subst P (eqb-true row y eb) all.0
-    by_first false later eb e = later e
+all-has P (row ∷ rows) y all e = grind (arith, eqb-true, all-has P rows y all.1)
 
 pub all-map : {X : Type 0} (P Q : X → Type 0) (xs : List X) → ((x : X) → P x → Q x) → AllByRecursion P xs → AllByRecursion Q xs
 all-map P Q [] to all = tt
@@ -164,11 +98,7 @@ all-append P (x ∷ xs) ys all more = (all.0, all-append P xs ys all.1 more)
 
 pub all-filter : {X : Type 0} (P : X → Type 0) (test : X → Bool) (xs : List X) → AllByRecursion P xs → AllByRecursion P (filter test xs)
 all-filter P test [] all = tt
-all-filter {X = X} P test (x ∷ xs) all = by_head (test x) (all-filter P test xs all.1)
-  where
-    by_head : (b : Bool) → AllByRecursion P (filter test xs) → AllByRecursion P (cond b (x ∷ filter test xs) (filter test xs))
-    by_head true rest = (all.0, rest)
-    by_head false rest = rest
+all-filter {X = X} P test (x ∷ xs) all = grind (arith, all-filter P test xs all.1)
 
 pub all-numbers : (P : ℕ → Type 0) (n many : ℕ) → ((k : ℕ) → n ≤ k → k < n + many → P k) → AllByRecursion P (count_from n many)
 all-numbers P n zero each = tt
@@ -184,6 +114,4 @@ all-mapped P f n (suc many) each =
 pub all-flat : {X : Type 0} (P : X → Type 0) (f : ℕ → List X) (n many : ℕ)
     → ((k : ℕ) → n ≤ k → k < n + many → AllByRecursion P (f k)) → AllByRecursion P (flat_map f (count_from n many))
 all-flat P f n zero each = tt
-all-flat P f n (suc many) each =
-    all-append P (f n) (flat_map f (count_from (n + 1) many)) (each n (omega arith) (omega arith))
-    (all-flat P f (n + 1) many (λ k from below. each k (omega arith) (omega arith)))
+all-flat P f n (suc many) each = grind (arith, all-append, all-flat P f (n + 1) many (λ k from below. each k (omega arith) (omega arith)))

@@ -1,15 +1,15 @@
 -- The make-up strokes fire each missing row once, and all strokes each row of the window.
 use Rattle.std.proofs.Common.{◌≡◌, ℕ, zero, suc, ◌+◌, ◌-◌, ◌*◌, ◌<◌, ◌≤◌, Bool, true, false, cond, not, ◌&&◌, ◌||◌, ◌==◌, inl, inr}
-use Rattle.std.proofs.Common.{List, [], ◌∷◌, length, Some, refl, sym, ◌∙◌, ap, arith, nat_lt, nat_le, if◌then◌else◌}
+use Rattle.std.proofs.Common.{List, [], ◌∷◌, length, Some, refl, sym, ◌∙◌, ap, arith, nat_lt, if◌then◌else◌}
 use Rattle.std.proofs.Math.Nat.{mul-le-mul_right}
 use Rattle.std.proofs.lemmas.Bool.{cond-false, eq-eqb, lt-ltb, ltb-false, ltb-true}
 use Rattle.std.proofs.lemmas.List.Sums.{count_by-le-length, length-filter}
-use Rattle.std.specs.List.{AllByRecursion, filter}
+use Rattle.std.specs.List.{AllByRecursion}
 use Rattle.base_definitions.specs.Counting.{count_from}
 use Rattle.weave_definitions.specs.Weave.{nozzle_row, pass_count}
 use Rattle.dead_nozzles.specs.Dead.{first_live, has, least_live}
 use Rattle.dead_nozzles.specs.Strokes.{Head, IsHead, Shot, HeadStroke, all_strokes, firings_of, head_rows, insert, inserted, is_fired, left_by}
-use Rattle.dead_nozzles.specs.Strokes.{made_up, made_up_by, make_up_stroke, make_up_strokes, missing, regular_strokes}
+use Rattle.dead_nozzles.specs.Strokes.{made_up, make_up_stroke, make_up_strokes, missing, regular_strokes}
 use Rattle.dead_nozzles.proofs.Lists.{Nowhere, all-filter, all-numbers, count-more, has-filter, has-inside, has-outside}
 use Rattle.dead_nozzles.proofs.Firing.{Hits, InPass, Over, count, is-fired, not-fired, one-place, over, pass-is, regular-tells, stroke-tells}
 
@@ -25,11 +25,7 @@ reach h j m = mul-le-mul_right h.pitch (let most : j ≤ h.nozzles - 1 = omega (
 
 maker-hits : (h : Head) (j y : ℕ) (rows : List ℕ) → Maker h j → has rows y ≡ true → y < h.height
     → Hits h (has rows) (y + head_rows h - j * h.pitch) y j
-maker-hits h j y rows m e low = record {
-  live = m.live;
-  is_wanted = e;
-  over = record { place = omega (arith, reach h j m); low = low };
-}
+maker-hits h j y rows m e low = grind (arith, over, reach)
 
 pub makes : (h : Head) (j y : ℕ) (rows : List ℕ) → Maker h j → has rows y ≡ true → y < h.height
     → is_fired (make_up_stroke h j y rows).shots y ≡ true
@@ -48,12 +44,7 @@ has-left shots rows y = has-filter (λ row. not (is_fired shots row)) rows y
 -- a stroke leaves fewer rows
 pub fewer : (h : Head) (j y : ℕ) (rows : List ℕ) (most : ℕ) → Maker h j → y < h.height → suc (length rows) ≤ suc most
     → length (left_by (make_up_stroke h j y (y ∷ rows)).shots (y ∷ rows)) ≤ most
-fewer h j y rows most m low few =
-    let shots : List Shot = (make_up_stroke h j y (y ∷ rows)).shots in
-    let test : ℕ → Bool = λ row. not (is_fired shots row) in
-    let gone : test y ≡ false = ap not (makes h j y (y ∷ rows) m (has-first y rows) low) in
-    let same : filter test (y ∷ rows) ≡ filter test rows = cond-false (test y) (y ∷ filter test rows) (filter test rows) gone in
-    omega (arith, ap length same, length-filter test rows, count_by-le-length test rows, few)
+fewer h j y rows most m low few = grind (arith, cond-false, count_by-le-length, has-first, length-filter, makes)
 
 once-more : (b c : Bool) (n : ℕ) → b ≡ true → c ≡ true → n ≡ 1 → n + cond (b && not c) 1 0 ≡ cond b 1 0
 once-more true true n eb ec e = omega (arith, e)
@@ -97,12 +88,7 @@ fires-each h j (suc most) (row ∷ rows) m low few y =
 
 live-is : (dead : List ℕ) (n many j : ℕ) → first_live dead (count_from n many) ≡ Some j → (j < n + many) × (has dead j ≡ false)
 live-is dead n zero j e = cc
-live-is dead n (suc many) j e = by_first (has dead n) (live-is dead (n + 1) many j) refl e
-  where
-    by_first : (b : Bool) → (first_live dead (count_from (n + 1) many) ≡ Some j → (j < n + 1 + many) × (has dead j ≡ false)) → has dead n ≡ b
-        → (if b then first_live dead (count_from (n + 1) many) else Some n) ≡ Some j → (j < n + suc many) × (has dead j ≡ false)
-    by_first true later eb e = let is = later e in (omega (arith, is.0), is.1)
-    by_first false later eb e = let same : n ≡ j = cc in (omega (arith, same), ap (has dead) (sym same) ∙ eb)
+live-is dead n (suc many) j e = grind (arith, live-is dead (n + 1) many j)
 
 pub maker-of : (h : Head) (j : ℕ) → IsHead h → least_live h.nozzles h.dead ≡ Some j → Maker h j
 maker-of h j is e =
@@ -118,37 +104,16 @@ missing-low h =
     (all-numbers (λ y. y < h.height) 0 h.height (λ k from below. omega arith))
 
 pub missing-made : (h : Head) → IsHead h → (y : ℕ) → count y (firings_of (make_up_strokes h)) ≡ cond (has (missing h) y) 1 0
-missing-made h is y =
-    ap (λ o. count y (firings_of (made_up_by h o))) is.is_live
-    ∙ fires-each h is.live (length (missing h)) (missing h) (maker h is) (missing-low h) (omega arith) y
+missing-made h is y = grind (arith, count, fires-each, maker, missing-low)
 
 has-count : (many y : ℕ) → has (count_from 0 many) y ≡ nat_lt y many
-has-count many y = by_test (nat_lt y many) refl
-  where
-    none : (b : Bool) → has (count_from 0 many) y ≡ b → many ≤ y → b ≡ false
-    none true e high = absurd (omega (arith, has-outside 0 many y e))
-    none false e high = refl
-
-    by_test : (b : Bool) → nat_lt y many ≡ b → has (count_from 0 many) y ≡ b
-    by_test true e = has-inside 0 many y (omega arith) (omega (arith, ltb-true y many e))
-    by_test false e = none (has (count_from 0 many) y) refl (ltb-false y many e)
+has-count many y = grind (arith, has-inside, has-outside, ltb-false, ltb-true)
 
 -- ---- all strokes
 
 count-insert : (y : ℕ) (s : HeadStroke) (ts : List HeadStroke) → count y (firings_of (insert s ts)) ≡ count y s.shots + count y (firings_of ts)
 count-insert y s [] = count-more (λ (s : Shot). s.row == y) s.shots []
-count-insert y s (t ∷ ts) = by_order (nat_le s.start t.start) (count-insert y s ts)
-  where
-    by_order : (b : Bool) → count y (firings_of (insert s ts)) ≡ count y s.shots + count y (firings_of ts)
-        → count y (firings_of (cond b (s ∷ t ∷ ts) (t ∷ insert s ts))) ≡ count y s.shots + count y (firings_of (t ∷ ts))
-    by_order true later = count-more (λ (s : Shot). s.row == y) s.shots (firings_of (t ∷ ts))
-    by_order false later =
-        omega (
-          arith,
-          count-more (λ (s : Shot). s.row == y) t.shots (firings_of (insert s ts)),
-          count-more (λ (s : Shot). s.row == y) t.shots (firings_of ts),
-          later,
-        )
+count-insert y s (t ∷ ts) = grind (arith, count, count-more, count-insert y s ts)
 
 count-inserted : (y : ℕ) (ss ts : List HeadStroke) → count y (firings_of (inserted ss ts)) ≡ count y (firings_of ss) + count y (firings_of ts)
 count-inserted y [] ts = omega arith

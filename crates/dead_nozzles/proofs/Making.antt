@@ -1,4 +1,5 @@
 -- A make-up stroke begins.
+use Rattle.std.proofs.lemmas.Grind.{common_steps}
 use Rattle.std.proofs.Common.{◌≡◌, ◌≢◌, ℕ, zero, suc, ◌+◌, ◌-◌, ◌*◌, ◌<◌, ◌≤◌, Bool, true, false, cond, not, ◌&&◌, inl, inr, ◌⊎◌}
 use Rattle.std.proofs.Common.{List, [], ◌∷◌, ◌++◌, length, Option, None, Some, refl, sym, ◌∙◌, ap, arith, append_assoc}
 use Rattle.std.proofs.Math.Nat.{mul-le-mul_right}
@@ -27,20 +28,7 @@ filter-two : (first second both : ℕ → Bool) (n many : ℕ) → ((y : ℕ) �
     → filter second (filter first (count_from n many)) ≡ filter both (count_from n many)
 filter-two first second both n zero same = refl
 filter-two first second both n (suc many) same =
-    by_first (first n) (filter-two first second both (n + 1) many (λ y from below. same y (omega arith) (omega arith)))
-    (same n (omega arith) (omega arith))
-  where
-    rest : List ℕ
-    rest = filter first (count_from (n + 1) many)
-
-    by_first : (b : Bool) → filter second (filter first (count_from (n + 1) many)) ≡ filter both (count_from (n + 1) many) → both n ≡ (b && second n)
-        → filter second (cond b (n ∷ filter first (count_from (n + 1) many)) (filter first (count_from (n + 1) many)))
-        ≡ cond (both n) (n ∷ filter both (count_from (n + 1) many)) (filter both (count_from (n + 1) many))
-    by_first true later e =
-        ap (λ ys. cond (second n) (n ∷ ys) ys) later
-        ∙ ap (λ b. cond b (n ∷ filter both (count_from (n + 1) many)) (filter both (count_from (n + 1) many))) (sym e)
-    by_first false later e =
-        later ∙ ap (λ b. cond b (n ∷ filter both (count_from (n + 1) many)) (filter both (count_from (n + 1) many))) (sym e)
+    grind (arith, filter-two first second both (n + 1) many (λ y from below. same y (omega arith) (omega arith)))
 
 -- ---- owners after a stroke has taken its rows
 
@@ -65,16 +53,7 @@ no-pass h j start row old new k t e =
 -- a row is free after the stroke where it was and the stroke does not fire it
 free-after : (h : Head) (j start row : ℕ) (old new : List (Option ℕ)) → MakesUp h j start row old new → (y : ℕ) → y < h.height
     → is_free (owner new y) ≡ (is_free (owner old y) && not (is_fired (stroke_at h (free old) start).shots y))
-free-after h j start row old new k y low =
-    ap is_free (k.takes.each y low) ∙ by_fired (is_fired (stroke_at h (free old) start).shots y)
-  where
-    whole : (b : Bool) → b ≡ (b && true)
-    whole true = refl
-    whole false = refl
-
-    by_fired : (b : Bool) → is_free (cond b (Some start) (owner old y)) ≡ (is_free (owner old y) && not b)
-    by_fired true = sym (and_right (is_free (owner old y)) false refl)
-    by_fired false = whole (is_free (owner old y))
+free-after h j start row old new k y low = grind (arith, and_right, free)
 
 -- another stroke keeps its rows
 of-kept : (h : Head) (j start row : ℕ) (old new : List (Option ℕ)) → MakesUp h j start row old new → (y other : ℕ) → y < h.height → start ≢ other
@@ -88,12 +67,7 @@ of-kept h j start row old new k y other low apart =
 
 owns-kept : (h : Head) (j start row : ℕ) (old new : List (Option ℕ)) → MakesUp h j start row old new
     → (d : HeadStroke) → Owns h old d → d.start < start → Owns h new d
-owns-kept h j start row old new k d own less i few = own i few ∙ by_row (row_under h d.start i) refl
-  where
-    by_row : (r : Option ℕ) → row_under h d.start i ≡ r → owned_row old d.start r ≡ owned_row new d.start r
-    by_row None e = refl
-    by_row (Some y) e =
-        ap (λ b. cond b (Some y) None) (sym (of-kept h j start row old new k y d.start (over h d.start i y e).low (λ same. omega (arith, same, less))))
+owns-kept h j start row old new k d own less i few = grind (arith, common_steps, of-kept, over)
 
 -- the stroke owns what it fires
 made-owns : (h : Head) (j start row : ℕ) (old new : List (Option ℕ)) → MakesUp h j start row old new

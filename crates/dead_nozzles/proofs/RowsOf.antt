@@ -6,7 +6,7 @@ use Rattle.std.specs.List.{flat_map}
 use Rattle.base_definitions.specs.Counting.{count_from}
 use Rattle.dead_nozzles.specs.Dead.{has}
 use Rattle.dead_nozzles.specs.Plans.{row_of}
-use Rattle.dead_nozzles.specs.Strokes.{Head, Shot, HeadStroke, is_fired, row_under, shot, stroke_at}
+use Rattle.dead_nozzles.specs.Strokes.{Head, Shot, is_fired, row_under, shot, stroke_at}
 use Rattle.dead_nozzles.proofs.Firing.{Hits, is-fired, not-fired, over, stroke-tells}
 
 -- the row under a nozzle, where the nozzle is live and the row is wanted
@@ -18,28 +18,17 @@ wanted_row h wanted nozzle (Some row) = cond (not (has h.dead nozzle) && wanted 
 own-shot : (h : Head) (wanted : ℕ → Bool) (i : ℕ) (row : Option ℕ) (others : List Shot) → row_of others i ≡ None
     → row_of (shot h wanted i row ++ others) i ≡ wanted_row h wanted i row
 own-shot h wanted i None others none = none
-own-shot h wanted i (Some row) others none = by_test (not (has h.dead i) && wanted row)
-  where
-    by_test : (b : Bool) → row_of (cond b (record { nozzle = i; row = row } ∷ []) [] ++ others) i ≡ cond b (Some row) None
-    by_test true = ap (λ b. if b then Some row else row_of others i) (eq-eqb i i refl)
-    by_test false = none
+own-shot h wanted i (Some row) others none = grind (arith, eq-eqb)
 
 other-shot : (h : Head) (wanted : ℕ → Bool) (k i : ℕ) (row : Option ℕ) (others : List Shot) → k ≢ i
     → row_of (shot h wanted k row ++ others) i ≡ row_of others i
 other-shot h wanted k i None others apart = refl
-other-shot h wanted k i (Some row) others apart = by_test (not (has h.dead k) && wanted row)
-  where
-    by_test : (b : Bool) → row_of (cond b (record { nozzle = k; row = row } ∷ []) [] ++ others) i ≡ row_of others i
-    by_test true = ap (λ b. if b then Some row else row_of others i) (ne_eqb k i apart)
-    by_test false = refl
+other-shot h wanted k i (Some row) others apart = grind (arith, ne_eqb)
 
 shots-past : (h : Head) (wanted : ℕ → Bool) (start n many i : ℕ) → i < n
     → row_of (flat_map (λ k. shot h wanted k (row_under h start k)) (count_from n many)) i ≡ None
 shots-past h wanted start n zero i past = refl
-shots-past h wanted start n (suc many) i past =
-    other-shot h wanted n i (row_under h start n) (flat_map (λ k. shot h wanted k (row_under h start k)) (count_from (n + 1) many))
-    (λ e. omega (arith, e, past))
-    ∙ shots-past h wanted start (n + 1) many i (omega arith)
+shots-past h wanted start n (suc many) i past = grind (arith, other-shot, shots-past h wanted start (n + 1) many i (omega arith))
 
 shots-row : (h : Head) (wanted : ℕ → Bool) (start n many i : ℕ) → n ≤ i → i < n + many
     → row_of (flat_map (λ k. shot h wanted k (row_under h start k)) (count_from n many)) i ≡ wanted_row h wanted i (row_under h start i)
@@ -70,25 +59,16 @@ stroke-row h wanted start i few = shots-row h wanted start 0 h.nozzles i (omega 
 -- strokes that want the same rows of the window are the same
 shot-same : (h : Head) (wanted other : ℕ → Bool) (start i : ℕ) → ((y : ℕ) → y < h.height → wanted y ≡ other y)
     → shot h wanted i (row_under h start i) ≡ shot h other i (row_under h start i)
-shot-same h wanted other start i same = by_row (row_under h start i) refl
-  where
-    by_row : (row : Option ℕ) → row_under h start i ≡ row → shot h wanted i row ≡ shot h other i row
-    by_row None e = refl
-    by_row (Some y) e =
-        ap (λ b. cond (not (has h.dead i) && b) (record { nozzle = i; row = y } ∷ []) []) (same y (over h start i y e).low)
+shot-same h wanted other start i same = grind (arith, over)
 
 shots-same : (h : Head) (wanted other : ℕ → Bool) (start : ℕ) (nozzles : List ℕ) → ((y : ℕ) → y < h.height → wanted y ≡ other y)
     → flat_map (λ i. shot h wanted i (row_under h start i)) nozzles ≡ flat_map (λ i. shot h other i (row_under h start i)) nozzles
 shots-same h wanted other start [] same = refl
-shots-same h wanted other start (i ∷ nozzles) same =
-    ap (λ shots. shots ++ flat_map (λ i. shot h wanted i (row_under h start i)) nozzles) (shot-same h wanted other start i same)
-    ∙ ap (λ shots. shot h other i (row_under h start i) ++ shots) (shots-same h wanted other start nozzles same)
+shots-same h wanted other start (i ∷ nozzles) same = grind (arith, shot-same, shots-same h wanted other start nozzles same)
 
 pub stroke-same : (h : Head) (wanted other : ℕ → Bool) (start start' : ℕ) → start ≡ start' → ((y : ℕ) → y < h.height → wanted y ≡ other y)
     → stroke_at h wanted start ≡ stroke_at h other start'
-stroke-same h wanted other start start' e same =
-    ap (λ (shots : List Shot). let s : HeadStroke = record { start = start; shots = shots } in s) (shots-same h wanted other start (count_from 0 h.nozzles) same)
-    ∙ ap (stroke_at h other) e
+stroke-same h wanted other start start' e same = grind (arith, shots-same)
 
 -- ---- which rows a stroke fires
 

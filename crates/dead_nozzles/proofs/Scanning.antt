@@ -1,5 +1,5 @@
 -- The strokes of a head as its starts are gone through from the top.
-use Rattle.std.proofs.Common.{◌≡◌, ◌≢◌, ℕ, zero, suc, ◌+◌, ◌-◌, ◌*◌, ◌/◌, ◌<◌, ◌≤◌, Bool, true, false, cond, not, ◌&&◌, ◌||◌, ◌==◌, inl, inr, ◌⊎◌}
+use Rattle.std.proofs.Common.{◌≡◌, ◌≢◌, ℕ, zero, suc, ◌+◌, ◌-◌, ◌*◌, ◌/◌, ◌<◌, ◌≤◌, true, false, cond, not, ◌&&◌, ◌||◌, ◌==◌, inl, inr, ◌⊎◌}
 use Rattle.std.proofs.Common.{List, [], ◌∷◌, ◌++◌, length, map, Option, None, Some, refl, sym, ◌∙◌, ap, arith, append_assoc}
 use Rattle.std.proofs.Math.Nat.{div-mul-le_self, mul-le-mul_right}
 use Rattle.std.proofs.lemmas.Bool.{cases_eq, cases_lt, cases_order, eqb-true, le-leb, lt-leb}
@@ -9,7 +9,7 @@ use Rattle.std.specs.List.{AllByRecursion, filter}
 use Rattle.base_definitions.specs.Counting.{count_from}
 use Rattle.weave_definitions.specs.Weave.{pass_count}
 use Rattle.dead_nozzles.specs.Dead.{has}
-use Rattle.dead_nozzles.specs.Plans.{Owns, is_free, is_of, owned_row, owner}
+use Rattle.dead_nozzles.specs.Plans.{Owns, is_free, is_of, owner}
 use Rattle.dead_nozzles.specs.Strokes.{Head, HeadStroke, all_strokes, head_rows, insert, inserted, made_up}
 use Rattle.dead_nozzles.specs.Strokes.{row_under, stroke_at}
 use Rattle.dead_nozzles.proofs.Lists.{all-append, all-map, both-true, has-filter, has-outside}
@@ -29,9 +29,7 @@ insert-first s (t ∷ ts) all = ap (λ b. cond b (s ∷ t ∷ ts) (t ∷ insert 
 -- a stroke that starts above the others stays the first
 inserted-after : (t : HeadStroke) (ss ts : List HeadStroke) → AllByRecursion (λ (s : HeadStroke). t.start < s.start) ss → inserted ss (t ∷ ts) ≡ t ∷ inserted ss ts
 inserted-after t [] ts all = refl
-inserted-after t (s ∷ ss) ts all =
-    ap (insert s) (inserted-after t ss ts all.1)
-    ∙ ap (λ b. cond b (s ∷ t ∷ inserted ss ts) (t ∷ insert s (inserted ss ts))) (lt-leb s.start t.start all.0)
+inserted-after t (s ∷ ss) ts all = grind (arith, lt-leb, inserted-after t ss ts all.1)
 
 -- ---- the rows that have no owner yet
 
@@ -49,10 +47,7 @@ row_at h j start = start + j * h.pitch - head_rows h
 
 free-drop : (h : Head) (owners : List (Option ℕ)) (row : ℕ) → row < h.height → is_free (owner owners row) ≡ false
     → free_from h owners row ≡ free_from h owners (row + 1)
-free-drop h owners row low taken =
-    let more : h.height - row ≡ suc (h.height - (row + 1)) = omega arith in
-    ap (λ n. filter (λ y. is_free (owner owners y)) (count_from row n)) more
-    ∙ ap (λ b. cond b (row ∷ free_from h owners (row + 1)) (free_from h owners (row + 1))) taken
+free-drop h owners row low taken = grind (arith, free_from)
 
 pub free-past : (h : Head) (owners : List (Option ℕ)) (row : ℕ) → h.height ≤ row → free_from h owners row ≡ []
 free-past h owners row past =
@@ -61,21 +56,7 @@ free-past h owners row past =
 -- where the row under the nozzle has an owner, the next start leaves the same rows
 free-next : (h : Head) (owners : List (Option ℕ)) (j start : ℕ) → ((row : ℕ) → row_under h start j ≡ Some row → is_free (owner owners row) ≡ false)
     → free_from h owners (row_at h j start) ≡ free_from h owners (row_at h j (start + 1))
-free-next h owners j start taken = elim (cases_lt (start + j * h.pitch) (head_rows h)) [ inl above ↦ before above | inr reached ↦ after reached ]
-  where
-    before : start + j * h.pitch < head_rows h → free_from h owners (row_at h j start) ≡ free_from h owners (row_at h j (start + 1))
-    before above =
-        let same : row_at h j start ≡ row_at h j (start + 1) = omega (arith, above) in ap (free_from h owners) same
-
-    after : head_rows h ≤ start + j * h.pitch → free_from h owners (row_at h j start) ≡ free_from h owners (row_at h j (start + 1))
-    after reached =
-        let row : ℕ = row_at h j start in
-        let next : row + 1 ≡ row_at h j (start + 1) = omega (arith, reached) in
-        elim (cases_lt row h.height) [
-          | inl low ↦ free-drop h owners row low (taken row (under h start j row (record { place = omega (arith, reached); low = low })))
-              ∙ ap (free_from h owners) next
-          | inr past ↦ free-past h owners row past ∙ sym (free-past h owners (row_at h j (start + 1)) (omega (arith, next, past)))
-        ]
+free-next h owners j start taken = grind (arith, cases_lt, free-drop, free-past, free_from, row_at, under)
 
 -- ---- where the head is in its strokes
 
@@ -103,32 +84,15 @@ pub record Scan (h : Head) (j start : ℕ) (owners : List (Option ℕ)) (starts 
 
 -- one multiple lies within a round
 pub same-multiple : (n a b : ℕ) → 1 ≤ n → a * n ≤ b * n → b * n < a * n + n → a ≡ b
-same-multiple n a b some le near =
-    elim (cases_order a b) [
-      | inl e ↦ e
-      | inr (inl less) ↦ absurd (let most : (a + 1) * n ≤ b * n = mul-le-mul_right n (omega arith) in
-          let spread : (a + 1) * n ≡ a * n + n = omega arith in omega (arith, most, spread, near))
-      | inr (inr less) ↦ absurd (let most : (b + 1) * n ≤ a * n = mul-le-mul_right n (omega arith) in
-          let spread : (b + 1) * n ≡ b * n + n = omega arith in omega (arith, most, spread, le, some))
-    ]
+same-multiple n a b some le near = grind (arith, cases_order, mul-le-mul_right)
 
 -- a pass that starts above the end of the window is one of the passes
 pub pass-counts : (h : Head) (t : ℕ) → 1 ≤ h.nozzles → t * h.nozzles < head_rows h + h.height → t < pass_count h.nozzles h.pitch h.height
-pass-counts h t some low =
-    let most : ℕ = h.height + (h.nozzles - 1) * h.pitch + (h.nozzles - 1) in
-    let spread : (t + 1) * h.nozzles ≡ t * h.nozzles + h.nozzles = omega arith in
-    let fits : (t + 1) * h.nozzles ≤ most = omega (arith, spread, low, some) in
-    let count : t + 1 ≤ most / h.nozzles = le-div (t + 1) most h.nozzles (omega (arith, some)) fits in
-    omega (arith, count)
+pass-counts h t some low = grind (arith, le-div)
 
 -- and the passes start there
 pub pass-begins : (h : Head) (t : ℕ) → 1 ≤ h.nozzles → t < pass_count h.nozzles h.pitch h.height → t * h.nozzles < head_rows h + h.height
-pass-begins h t some less =
-    let most : ℕ = h.height + (h.nozzles - 1) * h.pitch + (h.nozzles - 1) in
-    let product : (t + 1) * h.nozzles ≤ most / h.nozzles * h.nozzles = mul-le-mul_right h.nozzles (omega (arith, less)) in
-    let whole : most / h.nozzles * h.nozzles ≤ most = div-mul-le_self most h.nozzles in
-    let spread : (t + 1) * h.nozzles ≡ t * h.nozzles + h.nozzles = omega arith in
-    omega (arith, product, whole, spread, some)
+pass-begins h t some less = grind (arith, div-mul-le_self, mul-le-mul_right)
 
 -- ---- what is known of owners
 
@@ -148,29 +112,16 @@ pub record IsFreeRow (h : Head) (owners : List (Option ℕ)) (from y : ℕ) : Ty
 
 counted-after : (n many y : ℕ) → has (count_from n many) y ≡ true → n ≤ y
 counted-after n zero y e = cc
-counted-after n (suc many) y e = by_first (n == y) (counted-after (n + 1) many y) refl e
-  where
-    by_first : (b : Bool) → (has (count_from (n + 1) many) y ≡ true → n + 1 ≤ y) → (n == y) ≡ b
-        → (b || has (count_from (n + 1) many) y) ≡ true → n ≤ y
-    by_first true later e all = omega (arith, eqb-true n y e)
-    by_first false later e all = omega (arith, later all)
+counted-after n (suc many) y e = grind (arith, eqb-true, counted-after (n + 1) many y)
 
 pub free-row : (h : Head) (owners : List (Option ℕ)) (from y : ℕ) → has (free_from h owners from) y ≡ true → IsFreeRow h owners from y
-free-row h owners from y e =
-    let parts = both-true (has (count_from from (h.height - from)) y) (is_free (owner owners y))
-    (sym (has-filter (λ y. is_free (owner owners y)) (count_from from (h.height - from)) y) ∙ e) in
-    let after : from ≤ y = counted-after from (h.height - from) y parts.0 in
-    record { after = after; low = omega (arith, after, has-outside from (h.height - from) y parts.0); free = parts.1 }
+free-row h owners from y e = grind (arith, both-true, counted-after, has-filter, has-outside)
 
 -- rows down to the next start have owners
 owned-next : (h : Head) (owners : List (Option ℕ)) (j start : ℕ) → ((row : ℕ) → row_under h start j ≡ Some row → is_free (owner owners row) ≡ false)
     → ((row : ℕ) → row < row_at h j start → row < h.height → is_free (owner owners row) ≡ false)
     → (row : ℕ) → row < row_at h j (start + 1) → row < h.height → is_free (owner owners row) ≡ false
-owned-next h owners j start taken owned row less low =
-    elim (cases_lt row (row_at h j start)) [
-      | inl before ↦ owned row before low
-      | inr here ↦ taken row (under h start j row (record { place = omega (arith, less, here); low = low }))
-    ]
+owned-next h owners j start taken owned row less low = grind (arith, cases_lt, row_at, under)
 
 -- ---- a pass begins
 
@@ -182,21 +133,11 @@ pass-taken h owners j t row m of e =
 
 -- a pass owns the rows of its live nozzles
 pass-owns : (h : Head) (owners : List (Option ℕ)) (t : ℕ) → OfPasses h owners → Owns h owners (stroke_at h (λ row. true) (t * h.nozzles))
-pass-owns h owners t of i few = stroke-row h (λ row. true) (t * h.nozzles) i few ∙ by_row (row_under h (t * h.nozzles) i) refl
-  where
-    whole : (b : Bool) → (b && true) ≡ b
-    whole true = refl
-    whole false = refl
-
-    by_row : (row : Option ℕ) → row_under h (t * h.nozzles) i ≡ row → wanted_row h (λ row. true) i row ≡ owned_row owners (t * h.nozzles) row
-    by_row None e = refl
-    by_row (Some y) e = ap (λ b. cond b (Some y) None) (whole (not (has h.dead i)) ∙ sym (of t i y few e))
+pass-owns h owners t of i few = grind (arith, stroke-row, wanted_row)
 
 pub map-more : (xs : List HeadStroke) (s : HeadStroke) (start : ℕ) (starts : List ℕ) → starts ≡ map (λ (s : HeadStroke). s.start) xs → s.start ≡ start
     → starts ++ start ∷ [] ≡ map (λ (s : HeadStroke). s.start) (xs ++ s ∷ [])
-map-more xs s start starts e same =
-    ap (λ ys. ys ++ start ∷ []) e ∙ ap (λ n. map (λ (s : HeadStroke). s.start) xs ++ n ∷ []) (sym same)
-    ∙ sym (map-append (λ (s : HeadStroke). s.start) xs (s ∷ []))
+map-more xs s start starts e same = grind (arith, map-append)
 
 pub scan-pass : (h : Head) (j start : ℕ) (owners : List (Option ℕ)) (starts : List ℕ) (t : ℕ) → Maker h j → 1 ≤ h.nozzles
     → start < head_rows h + h.height → start ≡ t * h.nozzles → Scan h j start owners starts

@@ -1,6 +1,6 @@
 -- Live nozzles fire, and the starts of the strokes rise.
-use Rattle.std.proofs.Common.{◌≡◌, ◌≢◌, ℕ, zero, suc, ◌+◌, ◌-◌, ◌*◌, ◌<◌, ◌≤◌, Bool, true, false, cond, not, ◌&&◌, inl, inr}
-use Rattle.std.proofs.Common.{List, [], ◌∷◌, length, map, Option, None, Some, refl, sym, ◌∙◌, ap, subst, arith, nat_le}
+use Rattle.std.proofs.Common.{◌≡◌, ◌≢◌, ℕ, zero, suc, ◌+◌, ◌-◌, ◌*◌, ◌<◌, ◌≤◌, Bool, true, false, not, ◌&&◌, inl, inr}
+use Rattle.std.proofs.Common.{List, [], ◌∷◌, length, map, refl, sym, ◌∙◌, ap, subst, arith}
 use Rattle.std.proofs.Math.Nat.{mul-le-mul_right}
 use Rattle.std.proofs.lemmas.Bool.{leb-false, leb-true, not-true}
 use Rattle.std.specs.List.{AllByRecursion}
@@ -17,11 +17,7 @@ use Rattle.dead_nozzles.proofs.MakeUp.{AreLow, Maker, has-first, has-left, maker
 
 all-insert : (P : HeadStroke → Type 0) (s : HeadStroke) (ts : List HeadStroke) → P s → AllByRecursion P ts → AllByRecursion P (insert s ts)
 all-insert P s [] p all = (p, tt)
-all-insert P s (t ∷ ts) p all = by_order (nat_le s.start t.start) (all-insert P s ts p all.1)
-  where
-    by_order : (b : Bool) → AllByRecursion P (insert s ts) → AllByRecursion P (cond b (s ∷ t ∷ ts) (t ∷ insert s ts))
-    by_order true later = (p, all)
-    by_order false later = (all.0, later)
+all-insert P s (t ∷ ts) p all = grind (arith, all-insert P s ts p all.1)
 
 pub all-inserted : (P : HeadStroke → Type 0) (ss ts : List HeadStroke) → AllByRecursion P ss → AllByRecursion P ts → AllByRecursion P (inserted ss ts)
 all-inserted P [] ts more all = all
@@ -33,23 +29,7 @@ abbrev IsLive : Head → HeadStroke → Type 0
 IsLive h s = AllByRecursion (IsLiveShot h s.start) s.shots
 
 shot-live : (h : Head) (wanted : ℕ → Bool) (start i : ℕ) → i < h.nozzles → AllByRecursion (IsLiveShot h start) (shot h wanted i (row_under h start i))
-shot-live h wanted start i few = by_row (row_under h start i) refl
-  where
-    by_test : (row : ℕ) (b : Bool) → row_under h start i ≡ Some row → (not (has h.dead i) && wanted row) ≡ b
-        → AllByRecursion (IsLiveShot h start) (cond b (record { nozzle = i; row = row } ∷ []) [])
-    by_test row true e eb = (
-      record {
-        nozzle = few;
-        live = not-true (has h.dead i) (both-true (not (has h.dead i)) (wanted row) eb).0;
-        place = (over h start i row e).place;
-      },
-      tt,
-    )
-    by_test row false e eb = tt
-
-    by_row : (row : Option ℕ) → row_under h start i ≡ row → AllByRecursion (IsLiveShot h start) (shot h wanted i row)
-    by_row None e = tt
-    by_row (Some row) e = by_test row (not (has h.dead i) && wanted row) e refl
+shot-live h wanted start i few = grind (arith, both-true, not-true, over)
 
 stroke-live : (h : Head) (wanted : ℕ → Bool) (start : ℕ) → IsLive h (stroke_at h wanted start)
 stroke-live h wanted start =
@@ -59,10 +39,8 @@ stroke-live h wanted start =
 made-live : (h : Head) (j most : ℕ) (rows : List ℕ) → AreLive h (made_up h j most rows)
 made-live h j zero rows = tt
 made-live h j (suc most) [] = tt
-made-live h j (suc most) (row ∷ rows) = (
-  stroke-live h (has (row ∷ rows)) (row + head_rows h - j * h.pitch),
-  made-live h j most (left_by (make_up_stroke h j row (row ∷ rows)).shots (row ∷ rows)),
-)
+made-live h j (suc most) (row ∷ rows) =
+    grind (arith, stroke-live, made-live h j most (left_by (make_up_stroke h j row (row ∷ rows)).shots (row ∷ rows)))
 
 pub all-live : (h : Head) → IsHead h → AreLive h (all_strokes h)
 all-live h is =
@@ -75,22 +53,7 @@ all-live h is =
 
 insert-rises : (s : HeadStroke) (ts : List HeadStroke) → StartsRise ts → AllByRecursion (λ (k : HeadStroke). k.start ≢ s.start) ts → StartsRise (insert s ts)
 insert-rises s [] rises apart = (tt, tt)
-insert-rises s (t ∷ ts) rises apart = by_order (nat_le s.start t.start) (insert-rises s ts rises.1 apart.1) refl
-  where
-    by_order : (b : Bool) → StartsRise (insert s ts) → nat_le s.start t.start ≡ b → StartsRise (cond b (s ∷ t ∷ ts) (t ∷ insert s ts))
-    by_order true later e =
-        let most : s.start ≤ t.start = leb-true s.start t.start e in
-        let less : s.start < t.start = omega (arith, most, apart.0) in (
-          (
-            less,
-            all-map (λ (k : HeadStroke). t.start < k.start) (λ (k : HeadStroke). s.start < k.start) ts
-                (λ k after. omega (arith, less, after)) rises.0,
-          ),
-          rises,
-        )
-    by_order false later e =
-        let less : t.start < s.start = leb-false s.start t.start e in
-        (all-insert (λ (k : HeadStroke). t.start < k.start) s ts less rises.0, later)
+insert-rises s (t ∷ ts) rises apart = grind (arith, all-insert, all-map, leb-false, leb-true, insert-rises s ts rises.1 apart.1)
 
 -- where a make-up stroke starts
 pub record StartsAt (h : Head) (j : ℕ) (rows : List ℕ) (k : HeadStroke) : Type 0 where

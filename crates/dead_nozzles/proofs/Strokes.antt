@@ -1,20 +1,20 @@
 -- The starts of all strokes: where they begin, how they step, and where they end; and how many strokes there are.
-use Rattle.std.proofs.Common.{◌≡◌, ℕ, zero, suc, ◌+◌, ◌-◌, ◌*◌, ◌^◌, ◌<◌, ◌≤◌, Bool, true, false, cond, not, ◌&&◌, inl, inr}
-use Rattle.std.proofs.Common.{List, [], ◌∷◌, ◌++◌, length, map, Option, None, Some, refl, sym, ◌∙◌, ap, subst, arith, nat_le, append-nil, get_or}
+use Rattle.std.proofs.Common.{◌≡◌, ℕ, zero, suc, ◌+◌, ◌-◌, ◌*◌, ◌^◌, ◌<◌, ◌≤◌, Bool, true, false, cond, ◌&&◌, inr}
+use Rattle.std.proofs.Common.{List, [], ◌∷◌, ◌++◌, length, map, Option, Some, refl, sym, ◌∙◌, ap, subst, arith, append-nil}
 use Rattle.std.proofs.Math.Nat.{div-le_self, mul-le-mul}
 use Rattle.std.proofs.lemmas.Bool.{cases_lt}
-use Rattle.std.proofs.lemmas.List.{get_or-map, get_or_past, length-map}
+use Rattle.std.proofs.lemmas.List.{get_or_past, length-map}
 use Rattle.std.proofs.lemmas.List.Elements.{All-from_recursion}
 use Rattle.std.proofs.lemmas.List.Sums.{count_by-le-length, length-filter}
 use Rattle.std.specs.List.{AllByRecursion, filter}
 use Rattle.base_definitions.specs.Counting.{count_from}
 use Rattle.base_definitions.specs.Limits.{most_rows}
 use Rattle.weave_definitions.specs.Weave.{pass_count}
-use Rattle.dead_nozzles.specs.Dead.{has, least_live}
+use Rattle.dead_nozzles.specs.Dead.{least_live}
 use Rattle.dead_nozzles.specs.Plans.{ArePassOwners, Begins, IsStrokePlan, IsWorn, Owns, is_free, owner, row_of, stroke_in}
 use Rattle.dead_nozzles.specs.Plans.Begins.{a_make_up, a_pass, nothing}
-use Rattle.dead_nozzles.specs.Strokes.{Head, IsHead, StartsRise, HeadStroke, all_strokes, firings_of, head_rows, insert, is_fired, inserted, left_by, made_up, made_up_by, make_up_stroke}
-use Rattle.dead_nozzles.specs.Strokes.{make_up_strokes, missing, regular_strokes, row_under, stroke_at}
+use Rattle.dead_nozzles.specs.Strokes.{Head, IsHead, StartsRise, HeadStroke, all_strokes, head_rows, insert, inserted, left_by, made_up, made_up_by, make_up_stroke}
+use Rattle.dead_nozzles.specs.Strokes.{make_up_strokes, missing, regular_strokes, stroke_at}
 use Rattle.dead_nozzles.proofs.Firing.{Over, over}
 use Rattle.dead_nozzles.proofs.Lists.{all-has, all-map, all-mapped}
 use Rattle.dead_nozzles.proofs.MakeUp.{Maker, missing-low, reach}
@@ -108,10 +108,7 @@ pub record IsStrokeAt (h : Head) (s : HeadStroke) : Type 0 where
 made-are : (h : Head) (j most : ℕ) (rows : List ℕ) → AllByRecursion (IsStrokeAt h) (made_up h j most rows)
 made-are h j zero rows = tt
 made-are h j (suc most) [] = tt
-made-are h j (suc most) (row ∷ rows) = (
-  record { wanted = has (row ∷ rows); start = row + head_rows h - j * h.pitch; is = refl },
-  made-are h j most (left_by (make_up_stroke h j row (row ∷ rows)).shots (row ∷ rows)),
-)
+made-are h j (suc most) (row ∷ rows) = grind (arith, made-are h j most (left_by (make_up_stroke h j row (row ∷ rows)).shots (row ∷ rows)))
 
 -- all strokes are
 pub all-are : (h : Head) → IsHead h → AllByRecursion (IsStrokeAt h) (all_strokes h)
@@ -123,18 +120,7 @@ all-are h is =
 
 -- the row of a nozzle is under it
 pub row-over : (h : Head) (s : HeadStroke) (i y : ℕ) → i < h.nozzles → IsStrokeAt h s → row_of s.shots i ≡ Some y → Over h s.start i y
-row-over h s i y few shape e =
-    subst (λ (s : HeadStroke). Over h s.start i y) (sym shape.is)
-    (by_row (row_under h shape.start i) refl
-    (sym (stroke-row h shape.wanted shape.start i few) ∙ ap (λ (s : HeadStroke). row_of s.shots i) (sym shape.is) ∙ e))
-  where
-    by_test : (row : ℕ) (b : Bool) → row_under h shape.start i ≡ Some row → cond b (Some row) None ≡ Some y → Over h shape.start i y
-    by_test row true u same = over h shape.start i y (u ∙ same)
-    by_test row false u same = cc
-
-    by_row : (r : Option ℕ) → row_under h shape.start i ≡ r → wanted_row h shape.wanted i r ≡ Some y → Over h shape.start i y
-    by_row None u same = cc
-    by_row (Some row) u same = by_test row (not (has h.dead i) && shape.wanted row) u same
+row-over h s i y few shape e = grind (arith, Over, over, stroke-row, wanted_row)
 
 -- ---- how far down, and how many
 
@@ -151,11 +137,7 @@ all-low h is =
 
 insert-len : (s : HeadStroke) (ts : List HeadStroke) → length (insert s ts) ≡ suc (length ts)
 insert-len s [] = refl
-insert-len s (t ∷ ts) = by_order (nat_le s.start t.start) (insert-len s ts)
-  where
-    by_order : (b : Bool) → length (insert s ts) ≡ suc (length ts) → length (cond b (s ∷ t ∷ ts) (t ∷ insert s ts)) ≡ suc (suc (length ts))
-    by_order true e = refl
-    by_order false e = ap suc e
+insert-len s (t ∷ ts) = grind (arith, insert-len s ts)
 
 inserted-len : (ss ts : List HeadStroke) → length (inserted ss ts) ≡ length ss + length ts
 inserted-len [] ts = omega arith
@@ -172,39 +154,18 @@ count-len n (suc many) = ap suc (count-len (n + 1) many)
 
 -- there are no more strokes than passes and missing rows
 pub all-few : (h : Head) → IsHead h → length (all_strokes h) ≤ pass_count h.nozzles h.pitch h.height + length (missing h)
-all-few h is =
-    let passes : ℕ = pass_count h.nozzles h.pitch h.height in
-    let many : length (regular_strokes h) ≡ passes =
-    length-map (count_from 0 passes) (λ t. stroke_at h (λ row. true) (t * h.nozzles)) ∙ count-len 0 passes in
-    omega (
-      arith,
-      inserted-len (make_up_strokes h) (regular_strokes h),
-      many,
-      ap (λ o. length (made_up_by h o)) is.is_live,
-      made-len h is.live (length (missing h)) (missing h),
-    )
+all-few h is = grind (arith, count-len, inserted-len, length-map, made-len)
 
 -- no more rows are missing than the window has
 pub missing-few : (h : Head) → length (missing h) ≤ h.height
-missing-few h =
-    let left : ℕ → Bool = λ row. not (is_fired (firings_of (regular_strokes h)) row) in
-    omega (arith, length-filter left (count_from 0 h.height), count_by-le-length left (count_from 0 h.height), count-len 0 h.height)
+missing-few h = grind (arith, count-len, count_by-le-length, length-filter)
 
 -- 8 bytes for each row and each stroke are less than a megabyte
 pub plan-small : (h : Head) → IsHead h → h.nozzles ≤ 255 → h.pitch ≤ 255 → h.height ≤ most_rows
     → 8 * h.height + 8 * length (all_strokes h) ≤ 2 ^ 20
-plan-small h is few near low =
-    let over : ℕ = h.height + (h.nozzles - 1) * h.pitch + (h.nozzles - 1) in
-    let apart : (h.nozzles - 1) * h.pitch ≤ 254 * 255 = mul-le-mul {n₂ = 254} (omega (arith, few)) near in
-    omega (arith, all-few h is, missing-few h, div-le_self over h.nozzles, apart, few, low)
+plan-small h is few near low = grind (arith, all-few, div-le_self, missing-few, mul-le-mul, over)
 
 -- ---- the stroke at a place
-
-pub start-in : (h : Head) (starts : List ℕ) (owners : List (Option ℕ)) (place : ℕ) → IsStrokePlan h starts owners → place < length (all_strokes h)
-    → get_or starts place 0 ≡ (stroke_in (all_strokes h) place).start
-start-in h starts owners place is low =
-    ap (λ ns. get_or ns place 0) is.starts_are
-    ∙ get_or-map (λ (s : HeadStroke). s.start) (all_strokes h) place (record { start = 0; shots = [] }) 0 low
 
 pub in-low : (h : Head) (place : ℕ) → IsHead h → place < length (all_strokes h) → (stroke_in (all_strokes h) place).start < head_rows h + h.height
 in-low h place is low =
@@ -213,23 +174,13 @@ in-low h place is low =
 -- the row of a nozzle at a place, if it has one, is on the window
 pub in-over : (h : Head) (place i y : ℕ) → IsHead h → i < h.nozzles → row_of (stroke_in (all_strokes h) place).shots i ≡ Some y
     → Over h (stroke_in (all_strokes h) place).start i y
-in-over h place i y is few e =
-    elim (cases_lt place (length (all_strokes h))) [
-      | inl low ↦ row-over h (stroke_in (all_strokes h) place) i y few
-          (All-from_recursion (IsStrokeAt h) (all_strokes h) (all-are h is) place (record { start = 0; shots = [] }) low) e
-      | inr past ↦ absurd (none (ap (λ (s : HeadStroke). row_of s.shots i) (sym (get_or_past (all_strokes h) place (record { start = 0; shots = [] }) past)) ∙ e))
-    ]
-  where
-    none : None ≡ Some y → ⊥
-    none e = cc
+in-over h place i y is few e = grind (arith, All-from_recursion, all-are, cases_lt, get_or_past, row-over)
 
 -- strokes further on start no higher
 pub in-rises : (strokes : List HeadStroke) (i j : ℕ) → StartsRise strokes → i ≤ j → j < length strokes → (stroke_in strokes i).start ≤ (stroke_in strokes j).start
 in-rises [] i j rises le low = absurd (omega arith)
 in-rises (s ∷ strokes) zero zero rises le low = omega arith
-in-rises (s ∷ strokes) zero (suc j) rises le low =
-    let less : s.start < (stroke_in strokes j).start =
-    All-from_recursion (λ (t : HeadStroke). s.start < t.start) strokes rises.0 j (record { start = 0; shots = [] }) (omega (arith, low)) in omega (arith, less)
+in-rises (s ∷ strokes) zero (suc j) rises le low = grind (arith, All-from_recursion)
 in-rises (s ∷ strokes) (suc i) zero rises le low = absurd (omega arith)
 in-rises (s ∷ strokes) (suc i) (suc j) rises le low = in-rises strokes i j rises.1 (omega (arith, le)) (omega (arith, low))
 
@@ -243,24 +194,6 @@ map-places f (s ∷ strokes) g n same =
     ∙ ap (λ ts. f (g n) ∷ ts) (map-places f strokes g (n + 1)
     (λ k low. ap g (let next : n + 1 + k ≡ n + suc k = omega arith in next) ∙ same (suc k) (omega (arith, low))))
 
-pub in-owns : (h : Head) (starts : List ℕ) (owners : List (Option ℕ)) (place : ℕ) → IsStrokePlan h starts owners → place < length (all_strokes h)
-    → Owns h owners (stroke_in (all_strokes h) place)
-in-owns h starts owners place is low = All-from_recursion (Owns h owners) (all_strokes h) is.own place (record { start = 0; shots = [] }) low
-
 -- there are few enough strokes to count
 pub all-count : (h : Head) (starts : List ℕ) (owners : List (Option ℕ)) → IsStrokePlan h starts owners → length starts ≤ 96704
-all-count h starts owners is =
-    let passes : ℕ = h.height + (h.nozzles - 1) * h.pitch + (h.nozzles - 1) in
-    let long : (h.nozzles - 1) * h.pitch ≤ 254 * 255 =
-    mul-le-mul (let most : h.nozzles - 1 ≤ 254 = omega (arith, is.worn.most_nozzles) in most) is.worn.most_pitch in
-    omega (
-      arith,
-      ap length is.starts_are,
-      length-map (all_strokes h) (λ (s : HeadStroke). s.start),
-      all-few h is.head,
-      missing-few h,
-      div-le_self passes h.nozzles,
-      long,
-      is.worn.most_nozzles,
-      is.worn.most_rows,
-    )
+all-count h starts owners is = grind (arith, all-few, div-le_self, length-map, missing-few, mul-le-mul)

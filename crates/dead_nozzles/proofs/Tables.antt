@@ -7,7 +7,7 @@ use Rattle.std.proofs.lemmas.List.{drop_more}
 use Rattle.std.specs.Int.{IsGcd}
 use Rattle.std.specs.List.{AllByRecursion, filter}
 use Rattle.base_definitions.specs.Counting.{count_from}
-use Rattle.dead_nozzles.specs.Dead.{IsRising, answer, checked, first_live, first_outside, has, least_live}
+use Rattle.dead_nozzles.specs.Dead.{IsRising, checked, first_live, first_outside, has, least_live}
 use Rattle.dead_nozzles.specs.Plans.{listed}
 use Rattle.dead_nozzles.specs.Strokes.{Head, IsHead}
 use Rattle.dead_nozzles.proofs.Lists.{all-map, has-filter, has-inside}
@@ -18,49 +18,19 @@ use Rattle.dead_nozzles.proofs.DeadLists.{all-inside, has-none}
 -- a number of the list is put into the table
 pub table-step : (dead : List ℕ) (table : List Bool) (i k : ℕ) → i < length dead → get_or dead i 0 < length table
     → (get_or table k false || has (drop i dead) k) ≡ (get_or (set table (get_or dead i 0) true) k false || has (drop (i + 1) dead) k)
-table-step dead table i k inside low =
-    ap (λ ks. get_or table k false || has ks k) (drop_more dead i 0 inside) ∙ by_case (cases_eq k n)
-  where
-    n : ℕ
-    n = get_or dead i 0
-
-    rest : List ℕ
-    rest = drop (i + 1) dead
-
-    swap : (a b : Bool) → b ≡ true → (a || (b || has rest k)) ≡ true
-    swap true b e = refl
-    swap false true e = refl
-    swap false false e = cc
-
-    by_case : (k ≡ n) ⊎ (k ≢ n) → (get_or table k false || ((n == k) || has rest k)) ≡ (get_or (set table n true) k false || has rest k)
-    by_case (inl e) =
-        swap (get_or table k false) (n == k) (eq-eqb n k (sym e))
-        ∙ sym (ap (λ b. b || has rest k) (ap (λ m. get_or (set table n true) m false) e ∙ get_or-set_same table n true false low))
-    by_case (inr other) =
-        ap (λ b. get_or table k false || (b || has rest k)) (ne_eqb n k (λ e. other (sym e)))
-        ∙ ap (λ b. b || has rest k) (sym (get_or-set_other table n k true false other))
+table-step dead table i k inside low = grind (arith, cases_eq, drop_more, eq-eqb, get_or-set_other, get_or-set_same, ne_eqb)
 
 -- no number is left
 pub table-end : (dead : List ℕ) (b : Bool) (i k : ℕ) → length dead ≤ i → (b || has (drop i dead) k) ≡ b
-table-end [] b zero k past = none b
-  where
-    none : (b : Bool) → (b || false) ≡ b
-    none true = refl
-    none false = refl
-table-end [] b (suc i) k past = none b
-  where
-    none : (b : Bool) → (b || false) ≡ b
-    none true = refl
-    none false = refl
+table-end [] b zero k past = grind arith
+table-end [] b (suc i) k past = grind arith
 table-end (n ∷ dead) b zero k past = absurd (omega (arith, past))
 table-end (n ∷ dead) b (suc i) k past = table-end dead b i k (omega (arith, past))
 
 -- ---- the list of a table
 
 pub has-listed : (table : List Bool) (nozzles k : ℕ) → k < nozzles → has (listed table nozzles) k ≡ get_or table k false
-has-listed table nozzles k few =
-    has-filter (λ nozzle. get_or table nozzle false) (count_from 0 nozzles) k
-    ∙ ap (λ b. b && get_or table k false) (has-inside 0 nozzles k (omega arith) (omega (arith, few)))
+has-listed table nozzles k few = grind (arith, has-filter, has-inside)
 
 -- the numbers from n on that pass a test, where it is that of being in a rising list
 rising-is : (test : ℕ → Bool) (n many : ℕ) (rest : List ℕ) → IsRising rest → AllByRecursion (λ k. n ≤ k) rest
@@ -69,8 +39,7 @@ rising-is : (test : ℕ → Bool) (n many : ℕ) (rest : List ℕ) → IsRising 
 rising-is test n zero [] rising low high same = refl
 rising-is test n zero (k ∷ rest) rising low high same = absurd (omega (arith, low.0, high.0))
 rising-is test n (suc many) [] rising low high same =
-    ap (λ b. cond b (n ∷ filter test (count_from (n + 1) many)) (filter test (count_from (n + 1) many))) (same n (omega arith) (omega arith))
-    ∙ rising-is test (n + 1) many [] rising tt tt (λ k from below. same k (omega arith) (omega arith))
+    grind (arith, rising-is test (n + 1) many [] rising tt tt (λ k from below. same k (omega arith) (omega arith)))
 rising-is test n (suc many) (k ∷ rest) rising low high same =
     by_case (cases_eq k n)
     (λ e. rising-is test (n + 1) many rest rising.1 (all-map (λ i. k < i) (λ i. n + 1 ≤ i) rest (λ i less. omega (arith, less, e)) rising.0)
@@ -98,11 +67,7 @@ rising-is test n (suc many) (k ∷ rest) rising low high same =
 
 -- a list without a fault has nozzles
 inside : (nozzles : ℕ) (dead : List ℕ) → checked nozzles dead ≡ Ok tt → first_outside nozzles dead ≡ None
-inside nozzles dead e = by_first (first_outside nozzles dead) (least_live nozzles dead) refl e
-  where
-    by_first : (first live : _) → first_outside nozzles dead ≡ first → answer nozzles first live ≡ Ok tt → first ≡ None
-    by_first None live f e = refl
-    by_first (Some k) live f e = cc
+inside nozzles dead e = grind arith
 
 pub listed-is : (table : List Bool) (nozzles : ℕ) (dead : List ℕ) → IsRising dead → checked nozzles dead ≡ Ok tt
     → ((k : ℕ) → k < nozzles → get_or table k false ≡ has dead k) → listed table nozzles ≡ dead
@@ -121,12 +86,7 @@ pub record HasLive (nozzles : ℕ) (dead : List ℕ) : Type 0 where
   pub is_live : least_live nozzles dead ≡ Some live
 
 pub some-live : (nozzles : ℕ) (dead : List ℕ) → checked nozzles dead ≡ Ok tt → HasLive nozzles dead
-some-live nozzles dead e = by_live (first_outside nozzles dead) (least_live nozzles dead) refl e
-  where
-    by_live : (first live : _) → least_live nozzles dead ≡ live → answer nozzles first live ≡ Ok tt → HasLive nozzles dead
-    by_live None (Some j) f e = record { live = j; is_live = f }
-    by_live None None f e = cc
-    by_live (Some k) live f e = cc
+some-live nozzles dead e = grind arith
 
 -- ---- a table of a head
 
@@ -137,18 +97,12 @@ view-dead table nozzles pitch height h k e few = sym (has-listed table nozzles k
 
 -- the first nozzle from here on is live
 pub live-here : (dead : List ℕ) (nozzles n : ℕ) → n < nozzles → has dead n ≡ false → Some n ≡ first_live dead (count_from n (nozzles - n))
-live-here dead nozzles n few e =
-    let more : suc (nozzles - (n + 1)) ≡ nozzles - n = omega arith in
-    sym (ap (λ b. if b then first_live dead (count_from (n + 1) (nozzles - (n + 1))) else Some n) e)
-    ∙ ap (λ m. first_live dead (count_from n m)) more
+live-here dead nozzles n few e = grind arith
 
 -- it is dead
 pub dead-here : (dead : List ℕ) (nozzles n : ℕ) → n < nozzles → has dead n ≡ true
     → first_live dead (count_from n (nozzles - n)) ≡ first_live dead (count_from (n + 1) (nozzles - (n + 1)))
-dead-here dead nozzles n few e =
-    let more : nozzles - n ≡ suc (nozzles - (n + 1)) = omega arith in
-    ap (λ m. first_live dead (count_from n m)) more
-    ∙ ap (λ b. if b then first_live dead (count_from (n + 1) (nozzles - (n + 1))) else Some n) e
+dead-here dead nozzles n few e = grind arith
 
 -- no nozzle is left
 pub none-left : (dead : List ℕ) (nozzles n : ℕ) → nozzles ≤ n → first_live dead (count_from n (nozzles - n)) ≡ None

@@ -2,7 +2,6 @@
 use Rattle.std.proofs.Common.{◌≡◌, ℕ, ◌+◌, ◌*◌, ◌/◌, ◌%◌, ◌<◌, List, length, get_or, take, drop, sym, ◌∙◌, ap, arith, inl, inr}
 use Rattle.std.proofs.lemmas.Bool.{cases_eq}
 use Rattle.std.proofs.lemmas.List.{get_or-drop, get_or-take, get_or_default}
-use Rattle.base_definitions.specs.Packed.{bit_at}
 use Rattle.dot_planes.specs.Bands.{HasTileRow, HasTileRows}
 use Rattle.dot_planes.specs.Tables.{row_dot}
 use Rattle.dot_planes.specs.Tiles.{tile_dot}
@@ -31,9 +30,4 @@ beside_more wide new bytes tiles tile i r n inside is has here left before = rec
 
 -- a dot of a part of a row
 pub part_dot : (s m y : ℕ) (bytes : List ℕ) → y / 8 < m → row_dot (take m (drop s bytes)) y ≡ row_dot bytes (8 * s + y)
-part_dot s m y bytes inside =
-    let byte : s + y / 8 ≡ (8 * s + y) / 8 = omega arith in
-    let bit : y % 8 ≡ (8 * s + y) % 8 = omega arith in
-    ap (λ b. bit_at b (y % 8)) (get_or-take m (drop s bytes) (y / 8) 0 inside ∙ get_or-drop s bytes (y / 8) 0)
-    ∙ ap (λ n. bit_at (get_or bytes n 0) (y % 8)) byte
-    ∙ ap (bit_at (get_or bytes ((8 * s + y) / 8) 0)) bit
+part_dot s m y bytes inside = grind (arith, get_or-drop, get_or-take)

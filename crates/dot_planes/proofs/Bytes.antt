@@ -56,21 +56,7 @@ spliced_bit old new mask i fits low =
 pub spliced_inside : (old new from to k : ℕ)
     → from ≤ 8 → to ≤ 8 → from ≤ k → k < to → bit_at (spliced old new (mask_of from to)) k ≡ bit_at new k
 spliced_inside old new from to k few few' after before =
-    let on : bit (mask_of from to) (7 - k) ≡ 1 = omega (
-      arith,
-      mask_bit from to (7 - k) (omega arith),
-      from_inside from k few (omega arith) after,
-      from_before to k few' (omega arith) before,
-    ) in
-    let same : bit (spliced old new (mask_of from to)) (7 - k) ≡ bit new (7 - k) =
-    omega (
-      arith,
-      spliced_bit old new (mask_of from to) (7 - k) (mask_fits from to) (omega arith),
-      on,
-      bit_at-lt old (7 - k),
-      bit_at-lt new (7 - k),
-    ) in
-    ap (λ n. n == 1) same
+    grind (arith, bit_at-lt, from_before, from_inside, mask_bit, mask_fits, mask_of, spliced, spliced_bit)
 
 mask_off : (from to k : ℕ) → from ≤ 8 → to ≤ 8 → k < 8 → (k < from) ⊎ (to ≤ k) → bit (mask_of from to) (7 - k) ≡ 0
 mask_off from to k few few' low (inl before) = omega (arith, mask_bit from to (7 - k) (omega arith), from_before from k few low before)
@@ -78,14 +64,4 @@ mask_off from to k few few' low (inr past) = omega (arith, mask_bit from to (7 -
 
 pub spliced_outside : (old new from to k : ℕ)
     → from ≤ 8 → to ≤ 8 → k < 8 → (k < from) ⊎ (to ≤ k) → bit_at (spliced old new (mask_of from to)) k ≡ bit_at old k
-spliced_outside old new from to k few few' low where_is =
-    let off : bit (mask_of from to) (7 - k) ≡ 0 = mask_off from to k few few' low where_is in
-    let same : bit (spliced old new (mask_of from to)) (7 - k) ≡ bit old (7 - k) =
-    omega (
-      arith,
-      spliced_bit old new (mask_of from to) (7 - k) (mask_fits from to) (omega arith),
-      off,
-      bit_at-lt old (7 - k),
-      bit_at-lt new (7 - k),
-    ) in
-    ap (λ n. n == 1) same
+spliced_outside old new from to k few few' low where_is = grind (arith, bit_at-lt, mask_fits, mask_of, mask_off, spliced, spliced_bit)

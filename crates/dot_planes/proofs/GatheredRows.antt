@@ -1,5 +1,5 @@
 -- Rows of a tile, gathered one after the other.
-use Rattle.std.proofs.Common.{ℕ, ◌≡◌, ◌+◌, ◌*◌, ◌<◌, ◌≤◌, ◌∙◌, List, [], ap, arith, get_or, inl, inr, length, refl, set, subst, sym}
+use Rattle.std.proofs.Common.{ℕ, ◌≡◌, ◌+◌, ◌*◌, ◌<◌, ◌≤◌, ◌∙◌, List, [], ap, arith, get_or, length, refl, set, sym}
 use Rattle.std.proofs.Common.{get_or-set_other, get_or-set_same}
 use Rattle.std.proofs.lemmas.Bool.{cases_eq}
 use Rattle.tile_shape.specs.Geometry.{IsAt, IsPixel}
@@ -15,31 +15,12 @@ no_rows s f p tile = record { pixel = λ row offset x y low pixel at. absurd (om
 -- one more row
 pub row_more : (s : Shape) (f : ℕ → ℕ → ℕ) (p : Place) (n : ℕ) (old new : List ℕ) → HasRows s f p n old → GathersRow s f p n old new
     → HasRows s f p (n + 1) new
-row_more s f p n old new has gathers = record {
-  pixel = λ row offset x y low pixel at. elim (cases_eq row n) [
-    | inl here ↦
-        let AtRow : ℕ → Type 0 = λ m. IsAt p m offset x y in
-        ap (λ m. get_or new (64 * m + offset) 0) here ∙ gathers.pixel offset x y pixel (subst AtRow here at)
-    | inr other ↦ gathers.above (64 * row + offset) (omega (arith, at.in_tile)) ∙ has.pixel row offset x y (omega arith) pixel at
-  ];
-}
+row_more s f p n old new has gathers = grind (arith, cases_eq)
 
 -- one more ink
 pub ink_more : (a : AmountTable) (p : Place) (n at : ℕ) (inks : List (List ℕ)) (tile : List ℕ) → at ≡ n → at < length inks
     → HasPixels (shape_of a) (amount a n) p tile → HasInks a p n inks → HasInks a p (n + 1) (set inks at tile)
-ink_more a p n at inks tile is_at room here has = record {
-  ink = λ i low. elim (cases_eq i n) [
-    | inl last ↦
-        let Has : List ℕ → Type 0 = λ xs. HasPixels (shape_of a) (amount a n) p xs in
-        let AtInk : ℕ → Type 0 = λ m. HasPixels (shape_of a) (amount a m) p (get_or (set inks at tile) m []) in
-        let place : get_or (set inks at tile) n [] ≡ tile = ap (λ m. get_or (set inks at tile) m []) (sym is_at)
-        ∙ get_or-set_same inks at tile [] room in
-        subst AtInk (sym last) (subst Has (sym place) here)
-    | inr other ↦
-        let Has : List ℕ → Type 0 = λ xs. HasPixels (shape_of a) (amount a i) p xs in
-        subst Has (sym (get_or-set_other inks at i tile [] (λ same. other (same ∙ is_at)))) (has.ink i (omega arith))
-  ];
-}
+ink_more a p n at inks tile is_at room here has = grind (arith, cases_eq, get_or-set_other, get_or-set_same)
 
 -- The row of a window that is copied, at offsets from `from` to before `to`.
 pub record CopiesPart (row old new : List ℕ) (c r from to : ℕ) : Type 0 where

@@ -5,7 +5,6 @@ use Rattle.std.specs.List.{list_any}
 use Rattle.std.proofs.lemmas.Bool.{agree_below_at, and_parts, cases_eq, cases_lt, false_from_ne_true, lt-ltb}
 use Rattle.std.proofs.lemmas.Bool.{ltb-true, ne_eqb, or_cases, false≢true}
 use Rattle.std.proofs.lemmas.Nat.{and_le_l, le_or_l, le_or_r}
-use Rattle.std.specs.Int.Bits.{or_zero_l}
 use Rattle.std.proofs.lemmas.Nat.Bits.{bit_at_and, bit_at-lt}
 use Rattle.base_definitions.specs.Counting.{count_from}
 use Rattle.base_definitions.specs.Packed.{bit_at}
@@ -18,11 +17,7 @@ use Rattle.dot_planes.proofs.PackedRows.{no_bit}
 any-at : (f : ℕ → Bool) (m n k : ℕ) → k < n → f (m + k) ≡ true → list_any f (count_from m n) ≡ true
 any-at f m zero k low on = absurd (omega arith)
 any-at f m (suc n) zero low on = ap (λ b. b || list_any f (count_from (m + 1) n)) (ap f (omega arith) ∙ on)
-any-at f m (suc n) (suc k) low on = ap (λ b. f m || b) (any-at f (m + 1) n k (omega arith) (ap f (omega arith) ∙ on)) ∙ or_true (f m)
-  where
-    or_true : (a : Bool) → (a || true) ≡ true
-    or_true true = refl
-    or_true false = refl
+any-at f m (suc n) (suc k) low on = grind (arith, any-at f (m + 1) n k (omega arith) (ap f (omega arith) ∙ on))
 
 any-none : (f : ℕ → Bool) (m n : ℕ) → ((k : ℕ) → k < n → f (m + k) ≡ false) → list_any f (count_from m n) ≡ false
 any-none f m zero none = refl
@@ -96,27 +91,18 @@ and-is a b j = ap (λ n. n == 1) (bit_at_and a b (7 - j)) ∙ bit-and _ _ (bit_a
 -- a bit of a part is a dot of the row
 pub part-dot : (row : List ℕ) (dots i part j : ℕ) → IsPart row dots i part → j < 8 → bit_at part j ≡ true
     → (8 * i + j < dots) × (row_dot row (8 * i + j) ≡ true)
-part-dot row dots i part j is low on =
-    let parts = and_parts _ _ (sym (is j low) ∙ on) in
-    (ltb-true _ _ parts.0, parts.1)
+part-dot row dots i part j is low on = grind (arith, and_parts, ltb-true)
 
 -- the dots before the next part
 pub before-next : (f : ℕ → Bool) (dots i : ℕ)
     → ((k : ℕ) → k < 8 * i → k < dots → f k ≡ false) → ((j : ℕ) → j < 8 → 8 * i + j < dots → f (8 * i + j) ≡ false)
     → (k : ℕ) → k < 8 * (i + 1) → k < dots → f k ≡ false
-before-next f dots i before here k low in_row = elim (cases_lt k (8 * i)) [
-  | inl less ↦ before k less in_row
-  | inr more ↦
-      let place : 8 * i + (k - 8 * i) ≡ k = omega arith in
-      ap f (sym place) ∙ here (k - 8 * i) (omega arith) (omega (arith, place))
-]
+before-next f dots i before here k low in_row = grind (arith, cases_lt)
 
 -- a dot of the row that is no bit of a part without bits
 pub part-none : (row : List ℕ) (dots i part j : ℕ)
     → IsPart row dots i part → part ≡ 0 → j < 8 → 8 * i + j < dots → row_dot row (8 * i + j) ≡ false
-part-none row dots i part j is none low in_row = false_from_ne_true _ (λ on. false≢true (
-    sym (no_bit j) ∙ ap (λ b. bit_at b j) (sym none)
-    ∙ is j low ∙ ap (λ b. b && row_dot row (8 * i + j)) (lt-ltb (8 * i + j) dots in_row) ∙ on))
+part-none row dots i part j is none low in_row = grind (arith, false_from_ne_true, false≢true, lt-ltb, no_bit)
 
 -- ---- rows that meet
 
@@ -156,10 +142,7 @@ none-both row other dots x i part window is seen none j low in_row =
 
 -- a byte that may have dots, out of two
 pub or-some : (a b : ℕ) → bit_or a b ≢ 0 → (a ≢ 0) ⊎ (b ≢ 0)
-or-some a b some = elim (cases_eq a 0) [
-  | inl none ↦ inr (λ none'. some (ap (λ n. bit_or n b) none ∙ or_zero_l b ∙ none'))
-  | inr one ↦ inl one
-]
+or-some a b some = grind (arith, cases_eq)
 
 pub or-none : (a b : ℕ) → bit_or a b ≡ 0 → (a ≡ 0) × (b ≡ 0)
 or-none a b none = (omega (arith, le_or_l a b), omega (arith, le_or_r a b))

@@ -1,4 +1,5 @@
 -- Rows of dots and their packed bytes.
+use Rattle.std.proofs.lemmas.Grind.{common_steps}
 use Rattle.std.proofs.Common.{◌≡◌, ℕ, zero, suc, ◌+◌, ◌-◌, ◌*◌, ◌/◌, ◌%◌, ◌^◌, ◌==◌, ◌<◌, ◌≤◌, Bool, true, false, List, [], ◌∷◌, ◌++◌}
 use Rattle.std.proofs.Common.{length, drop, map, cond, get_or, sum_by, count_by, count_ones, refl, sym, ◌∙◌, ap, arith, inl, inr}
 use Rattle.std.proofs.Common.{length-drop}
@@ -21,23 +22,16 @@ counted-len f n (suc many) = ap suc (counted-len f (n + 1) many)
 pub counted-at : (f : ℕ → Bool) (n many k : ℕ) → k < many → at (map f (count_from n many)) k ≡ f (n + k)
 counted-at f n zero k below = absurd (omega arith)
 counted-at f n (suc many) zero below = let place : n ≡ n + 0 = omega arith in ap f place
-counted-at f n (suc many) (suc k) below =
-    let place : n + 1 + k ≡ n + suc k = omega arith in
-    counted-at f (n + 1) many k (omega arith) ∙ ap f place
+counted-at f n (suc many) (suc k) below = grind (arith, counted-at f (n + 1) many k (omega arith))
 
 pub counted-count : (f : ℕ → Bool) (n many : ℕ) → count_by (λ b. b) (map f (count_from n many)) ≡ count_by f (count_from n many)
 counted-count f n zero = refl
-counted-count f n (suc many) =
-    sum_by-cons (λ b. cond b 1 0) (f n) (map f (count_from (n + 1) many))
-    ∙ ap (λ rest. cond (f n) 1 0 + rest) (counted-count f (n + 1) many)
-    ∙ sym (sum_by-cons (λ m. cond (f m) 1 0) n (count_from (n + 1) many))
+counted-count f n (suc many) = grind (arith, common_steps, sum_by-cons, counted-count f (n + 1) many)
 
 -- one number more
 count_from-more : (n many : ℕ) → count_from n (suc many) ≡ count_from n many ++ (n + many) ∷ []
 count_from-more n zero = let place : n ≡ n + 0 = omega arith in ap (λ m. m ∷ []) place
-count_from-more n (suc many) =
-    let place : n + 1 + many ≡ n + suc many = omega arith in
-    ap (λ ms. n ∷ ms) (count_from-more (n + 1) many ∙ ap (λ m. count_from (n + 1) many ++ m ∷ []) place)
+count_from-more n (suc many) = grind (arith, count_from-more (n + 1) many)
 
 pub sum_counted : (f : ℕ → ℕ) (many : ℕ) → sum_by f (count_from 0 (many + 1)) ≡ sum_by f (count_from 0 many) + f many
 sum_counted f many =
@@ -52,10 +46,7 @@ sum_counted f many =
 
 -- a dot further on in a row of bytes
 pub next_byte : (b : ℕ) (row : List ℕ) (k : ℕ) → row_dot (b ∷ row) (8 + k) ≡ row_dot row k
-next_byte b row k =
-    let quotient : (8 + k) / 8 ≡ suc (k / 8) = omega arith in
-    let remainder : (8 + k) % 8 ≡ k % 8 = omega arith in
-    ap (λ n. bit_at (get_or (b ∷ row) n 0) ((8 + k) % 8)) quotient ∙ ap (bit_at (get_or row (k / 8) 0)) remainder
+next_byte b row k = grind arith
 
 -- bytes are packed from their dots
 pub packed_back : (n : ℕ) (row : List ℕ) (dots : List Bool) → length row ≡ n → ((k : ℕ) → get_or row k 0 < 256)
@@ -81,14 +72,7 @@ packed_back (suc n) (b ∷ row) dots len bytes same =
 -- A packed row is that of its dots, where its spare bits are 0.
 pub row_packed : (width : ℕ) (row : List ℕ) → length row ≡ row_len width → ((k : ℕ) → get_or row k 0 < 256)
     → ((x : ℕ) → width ≤ x → row_dot row x ≡ false) → row ≡ packed (map (row_dot row) (count_from 0 width))
-row_packed width row len bytes spare =
-    let dots : List Bool = map (row_dot row) (count_from 0 width) in
-    let dots_len : length dots ≡ width = counted-len (row_dot row) 0 width in
-    let same : (k : ℕ) → at dots k ≡ row_dot row k = λ k. elim (cases_lt k width) [
-      | inl inside ↦ let place : 0 + k ≡ k = omega arith in counted-at (row_dot row) 0 width k inside ∙ ap (row_dot row) place
-      | inr past ↦ get_or_past dots k false (omega (arith, dots_len)) ∙ sym (spare k past)
-    ] in
-    sym (packed_back ((length dots + 7) / 8) row dots (len ∙ ap (λ n. (n + 7) / 8) (sym dots_len)) bytes same)
+row_packed width row len bytes spare = grind (arith, cases_lt, counted-at, counted-len, get_or_past, packed_back)
 
 -- ---- from dots to bytes
 
@@ -170,6 +154,4 @@ packed_count (suc n) dots fits =
 -- the ones of a packed row are its dots
 pub row_count : (f : ℕ → Bool) (width : ℕ) (row : List ℕ)
     → row ≡ packed (map f (count_from 0 width)) → sum_by count_ones row ≡ count_by f (count_from 0 width)
-row_count f width row is =
-    let dots : List Bool = map f (count_from 0 width) in
-    ap (λ (bs : List ℕ). sum_by count_ones bs) is ∙ packed_count ((length dots + 7) / 8) dots (omega arith) ∙ counted-count f 0 width
+row_count f width row is = grind (arith, counted-count, packed_count)

@@ -1,4 +1,5 @@
 -- Planes after the bytes up to a row were filled up, and that row was written.
+use Rattle.std.proofs.lemmas.Grind.{common_steps}
 use Rattle.std.proofs.Common.{◌≡◌, ℕ, ◌+◌, ◌-◌, ◌*◌, ◌/◌, ◌%◌, ◌^◌, ◌<◌, ◌≤◌, List, Vec, Global, length, take, drop, max, replicate, bit_or, get_or, set, sym, ◌∙◌, ap, arith}
 use Rattle.std.proofs.Common.{false, length-drop, length-set, length-take}
 use Rattle.std.proofs.lemmas.List.{get_or_append_left}
@@ -26,15 +27,7 @@ pub record IsReached (p : Inside) (r : Vec ℕ Global) (i y start end : ℕ) : T
 pub is-reached : (p : Inside) (t : DotTable) (r : Vec ℕ Global) (i y start len : ℕ) → IsTable p → table_of p ≡ t → i < t.inks → y < t.rows
     → start ≡ (y * p.inks + i) * len → len ≡ row_len p.width → r.items ≡ padded (start + len) p.bytes.items
     → vec_capacity p.bytes ≤ vec_capacity r → IsReached p r i y start (start + len)
-is-reached p t r i y start len before same ink down first len_is items capacity = record {
-  before = before;
-  ink = omega (arith, ink, ap (λ (o : DotTable). o.inks) same);
-  down = omega (arith, down, ap (λ (o : DotTable). o.rows) same);
-  start_is = first ∙ ap (λ l. (y * p.inks + i) * l) len_is;
-  end_is = ap (λ l. start + l) len_is;
-  items = items;
-  capacity = capacity;
-}
+is-reached p t r i y start len before same ink down first len_is items capacity = grind arith
 
 -- the number of the row among those of all inks
 abbrev pub place_of : Inside → ℕ → ℕ → ℕ
@@ -58,14 +51,10 @@ reached-len p r i y start end it =
     reached_rows (row_len p.width) it.before.there (place_of p i y) end p.bytes.items r.items it.items it.before.len (omega (arith, it.start_is, it.end_is))
 
 pub end-there : (p : Inside) (r : Vec ℕ Global) (i y start end : ℕ) (it : IsReached p r i y start end) → end ≤ length r.items
-end-there p r i y start end it =
-    let rows : (place_of p i y + 1) * row_len p.width ≤ rows_now p it.before i y * row_len p.width = mul-le-mul_right (row_len p.width) (omega arith) in
-    omega (arith, rows, it.start_is, it.end_is, reached-len p r i y start end it)
+end-there p r i y start end it = grind (arith, common_steps, mul-le-mul_right, place_of, reached-len, rows_now)
 
 all-there : (p : Inside) (t : IsTable p) → length (all_bytes p) ≡ all_len p
-all-there p t =
-    let rows : t.there * row_len p.width ≤ p.inks * p.rows * row_len p.width = mul-le-mul_right (row_len p.width) t.some in
-    padded-len (all_len p) p.bytes.items (omega (arith, rows, t.len))
+all-there p t = grind (arith, mul-le-mul_right, padded-len)
 
 -- the bytes of all rows are the same
 all-reached : (p : Inside) (r : Vec ℕ Global) (i y start end : ℕ) (it : IsReached p r i y start end) → padded (all_len p) r.items ≡ all_bytes p
@@ -83,12 +72,7 @@ pub record IsRowThere (p : Inside) (r : Vec ℕ Global) (i y start k : ℕ) (xs 
 
 pub row-there : (p : Inside) (r : Vec ℕ Global) (i y start len : ℕ) (xs : List ℕ) → IsReached p r i y start (start + len) → xs ≡ r.items
     → IsRowThere p r i y start (start + len - start) xs
-row-there p r i y start len xs reached same = record {
-  end = start + len;
-  reached = reached;
-  same = same;
-  many = omega (arith, reached.end_is);
-}
+row-there p r i y start len xs reached same = grind arith
 
 -- the row before it is written
 pub row-before : (p : Inside) (r : Vec ℕ Global) (i y start k : ℕ) (xs : List ℕ) → IsRowThere p r i y start k xs
@@ -106,21 +90,11 @@ row-before p r i y start k xs it =
 
 pub row-before-len : (p : Inside) (r : Vec ℕ Global) (i y start k : ℕ) (xs : List ℕ) → IsRowThere p r i y start k xs
     → length (take k (drop start xs)) ≡ row_len p.width
-row-before-len p r i y start k xs it = omega (
-  arith,
-  length-take k (drop start xs),
-  length-drop start xs,
-  ap length it.same,
-  it.many,
-  it.reached.end_is,
-  end-there p r i y start it.end it.reached,
-)
+row-before-len p r i y start k xs it = grind (arith, common_steps, end-there, length-drop, length-take)
 
 pub row-before-spare : (p : Inside) (r : Vec ℕ Global) (i y start k : ℕ) (xs : List ℕ) → IsRowThere p r i y start k xs
     → (x : ℕ) → p.width ≤ x → row_dot (row_at (row_len p.width) (all_bytes p) (place_of p i y)) x ≡ false
-row-before-spare p r i y start k xs it x past =
-    let all = it.reached in
-    all.before.spare (place_of p i y) x (row_inside_across p.inks p.rows i y all.ink all.down) past
+row-before-spare p r i y start k xs it x past = grind (arith, place_of, row_inside_across)
 
 -- the planes with a row written anew
 abbrev pub with_row : Inside → Vec ℕ Global → ℕ → ℕ → List ℕ → List ℕ → Inside

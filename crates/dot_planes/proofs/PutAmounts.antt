@@ -1,5 +1,5 @@
 -- Amounts of a row are written.
-use Rattle.std.proofs.Common.{◌≡◌, ◌≢◌, ◌⊎◌, ℕ, ◌+◌, ◌*◌, ◌<◌, ◌≤◌, List, length, get_or, sym, ◌∙◌, ap, arith, inl, inr, refl, subst}
+use Rattle.std.proofs.Common.{◌≡◌, ◌≢◌, ◌⊎◌, ℕ, ◌+◌, ◌*◌, ◌<◌, ◌≤◌, List, length, get_or, sym, ◌∙◌, arith, inl, inr, refl, subst}
 use Rattle.std.proofs.lemmas.Bool.{cases_eq, cases_lt}
 use borrow.Rule.Slice.PartMut.{put_mid}
 use Rattle.dot_planes.specs.Tables.{AmountTable, CopiesInkRow, HasSizeAs, Sets, amount}
@@ -27,19 +27,12 @@ room t i y x a k part new p =
 -- bytes outside of the part are unchanged
 outside : (t : AmountTable) (i y x a k : ℕ) (part new : List ℕ) → IsPut t i y x a k part new → (from end : ℕ) → from ≤ a → a + k ≤ end
     → (n : ℕ) → (n < from) ⊎ (end ≤ n) → get_or new n 0 ≡ get_or t.bytes n 0
-outside t i y x a k part new p from end low high n where_is =
-    ap (λ (bytes : List ℕ). get_or bytes n 0) p.is
-    ∙ put_outside a k from end t.bytes part (room t i y x a k part new p) (sym p.many) low high n where_is
+outside t i y x a k part new p from end low high n where_is = grind (arith, put_outside, room)
 
 part_is : (t : AmountTable) (i y x a k : ℕ) (part new : List ℕ) → IsPut t i y x a k part new
     → (j : ℕ) → j < length part → amount (with_bytes t new) i y (x + j) ≡ get_or part j 0
 unfolding amount
-part_is t i y x a k part new p j below =
-    let place : (i * t.rows + y) * t.width + (x + j) ≡ a + j = omega arith in
-    row_byte t.width (i * t.rows + y) (x + j) new (omega arith)
-    ∙ ap (λ n. get_or new n 0) place
-    ∙ ap (λ (bytes : List ℕ). get_or bytes (a + j) 0) p.is
-    ∙ put_inside a k j t.bytes part (room t i y x a k part new p) below
+part_is t i y x a k part new p j below = grind (arith, put_inside, room, row_byte)
 
 beside_kept : (t : AmountTable) (i y x a k : ℕ) (part new : List ℕ) → IsPut t i y x a k part new
     → (c : ℕ) → (c < x) ⊎ (x + length part ≤ c) → amount (with_bytes t new) i y c ≡ amount t i y c
@@ -88,11 +81,7 @@ pub record IsCopied (t : AmountTable) (i from y : ℕ) (new : List ℕ) : Type 0
 copy_is : (t : AmountTable) (i from y : ℕ) (new : List ℕ) → IsCopied t i from y new
     → (x : ℕ) → amount (with_bytes t new) i y x ≡ amount t i from x
 unfolding amount
-copy_is t i from y new p x = elim (cases_lt x t.width) [
-  | inl inside ↦
-      row_byte t.width (i * t.rows + y) x new inside ∙ p.copy x inside ∙ sym (row_byte t.width (i * t.rows + from) x t.bytes inside)
-  | inr past ↦ no_byte t.width (i * t.rows + y) x new past ∙ sym (no_byte t.width (i * t.rows + from) x t.bytes past)
-]
+copy_is t i from y new p x = grind (arith, cases_lt, no_byte, row_byte)
 
 rest_kept : (t : AmountTable) (i from y : ℕ) (new : List ℕ) → IsCopied t i from y new
     → (j r : ℕ) → (j ≢ i) ⊎ (r ≢ y) → r < t.rows → (x : ℕ) → amount (with_bytes t new) j r x ≡ amount t j r x
@@ -120,18 +109,4 @@ pub record HasCopies (old new : AmountTable) (inks from y : ℕ) : Type 0 where
 -- one ink more
 pub copies_more : (old now new : AmountTable) (ink from y : ℕ) → from < old.rows → y < old.rows
     → HasCopies old now ink from y → CopiesInkRow now new ink from y → HasCopies old new (ink + 1) from y
-copies_more old now new ink from y low low' p one = record {
-  size = record {
-    width = one.size.width ∙ p.size.width;
-    rows = one.size.rows ∙ p.size.rows;
-    inks = one.size.inks ∙ p.size.inks;
-  };
-  row = λ i x few. elim (cases_eq i ink) [
-    | inl here ↦
-        ap (λ n. amount new n y x) here ∙ one.row x ∙ p.later ink from x (omega arith) low ∙ ap (λ n. amount old n from x) (sym here)
-    | inr other ↦ one.others i y (inl other) (omega (arith, p.size.rows)) x ∙ p.row i x (omega arith)
-  ];
-  later = λ i r x few inside.
-      one.others i r (inl (omega arith)) (omega (arith, p.size.rows)) x ∙ p.later i r x (omega arith) inside;
-  others = λ i r x other inside. one.others i r (inr other) (omega (arith, p.size.rows)) x ∙ p.others i r x other inside;
-}
+copies_more old now new ink from y low low' p one = grind (arith, cases_eq)

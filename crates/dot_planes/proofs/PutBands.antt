@@ -35,28 +35,7 @@ puts_band_row old new i y r wide put p packed_row is = record {
 pub band_rows_more : (old mid new : DotTable) (first r i : ℕ) (tiles : List TileDots) (wide : List ℕ)
     → r < 32 → first + r < old.rows → old.width + 62 ≤ 64 * length tiles → HasTileRows wide tiles i r (length tiles)
     → PutsBandInk old mid first r i tiles → PutsBandRow mid new i (first + r) r wide → PutsBandInk old new first (r + 1) i tiles
-band_rows_more old mid new first r i tiles wide low room enough has before now = record {
-  size = same_size old mid new before.size now.size;
-  pixels = λ row offset c x d upto inside in_row across. elim (cases_eq row r) [
-    | inl here ↦
-        let place : x + 2 * r ≡ 64 * c + offset = omega arith in
-        ap (λ k. dot new i (first + k) x) here
-        ∙ now.pixels x (omega (arith, before.size.width))
-        ∙ ap (row_dot wide) place ∙ has.dots c offset d (omega arith) inside
-        ∙ ap (λ k. tile_dot (get_or tiles c d).bits i k offset) (sym here)
-    | inr differs ↦
-        let other : first + row ≢ first + r = omega arith in
-        now.others i (first + row) x (omega (arith, before.size.rows)) (inr other)
-        ∙ before.pixels row offset c x d (omega arith) inside in_row across
-  ];
-  others = λ k y x down where_is. now.others k y x (omega (arith, before.size.rows)) (elim where_is [
-    | inl ink ↦ inl ink
-    | inr rows ↦ inr (elim rows [ inl above ↦ omega arith | inr below ↦ omega arith ])
-  ]) ∙ before.others k y x down (elim where_is [
-    | inl ink ↦ inl ink
-    | inr rows ↦ inr (elim rows [ inl above ↦ inl above | inr below ↦ inr (omega arith) ])
-  ]);
-}
+band_rows_more old mid new first r i tiles wide low room enough has before now = grind (arith, cases_eq, same_size)
 
 -- ---- the inks of a band
 

@@ -10,7 +10,7 @@ use Rattle.base_definitions.specs.Packed.{bit_at}
 use Rattle.dot_planes.specs.Tables.{DotTable, IsPackedRow, PutsRow, TurnsOn, dot, row_at, row_dot, row_len}
 use Rattle.dot_planes.proofs.PackedRows.{dot_of_packed, no_bit, packed-len}
 use Rattle.dot_planes.proofs.RowBytes.{apart, bytes_inside, no_byte, row_byte, row_inside_across, row_kept, rows_differ_across}
-use Rattle.dot_planes.proofs.Writes.{put_inside, put_len, put_outside}
+use Rattle.dot_planes.proofs.Writes.{put_inside, put_outside}
 
 -- the same table with other bytes
 abbrev pub with_bytes : DotTable → List ℕ → DotTable
@@ -133,23 +133,7 @@ inside_row t i y x place new p = omega (arith, p.across)
 
 on_is : (t : DotTable) (i y x place : ℕ) (new : List ℕ) → IsDotPut t i y x place new
     → row_dot (row_at (row_len t.width) new (y * t.inks + i)) x ≡ true
-on_is t i y x place new p =
-    let len : ℕ = row_len t.width in
-    let n : ℕ = y * t.inks + i in
-    let inside : x / 8 < len = inside_row t i y x place new p in
-    let room_is : place < length t.bytes = omega (
-      arith,
-      p.len,
-      p.place_is,
-      bytes_inside len (t.inks * t.rows) n (row_inside_across t.inks t.rows i y p.ink p.down),
-    ) in
-    let low : x % 8 < 8 = omega arith in
-    ap (λ b. bit_at b (x % 8)) (
-    row_byte len n (x / 8) new inside
-    ∙ ap (λ (bytes : List ℕ). get_or bytes (n * len + x / 8) 0) p.is
-    ∙ ap (λ m. get_or (set t.bytes place (bit_or (get_or t.bytes place 0) (1 * 2 ^ (7 - x % 8) % 2 ^ 8))) m 0) (sym p.place_is)
-    ∙ get_or-set_same t.bytes place _ 0 room_is)
-    ∙ set_same (get_or t.bytes place 0) (x % 8) low
+on_is t i y x place new p = grind (arith, bytes_inside, get_or-set_same, inside_row, row_byte, row_inside_across, set_same)
 
 dots_kept : (t : DotTable) (i y x place : ℕ) (new : List ℕ) → IsDotPut t i y x place new
     → (m c : ℕ) → (m ≢ y * t.inks + i) ⊎ (c ≢ x)
@@ -219,10 +203,4 @@ turns_on t old i y x place new same p =
     })
 
 pub dot_put-spare : (t : DotTable) (i y x place : ℕ) (new : List ℕ) → IsSpare t t.bytes → IsDotPut t i y x place new → IsSpare t new
-dot_put-spare t i y x place new spare p m c below past =
-    let beyond : c ≢ x = omega (arith, p.across) in
-    dots_kept t i y x place new p m c (inr beyond) ∙ spare m c below past
-
-pub bytes_kept : (t : DotTable) (i y a k : ℕ) (row new : List ℕ) → IsRowPut t i y a k row new → length new ≡ length t.bytes
-bytes_kept t i y a k row new p =
-    ap length p.is ∙ put_len a k t.bytes row (room t i y a k row new p) (packed_row-len t.width row p.packed_row ∙ sym p.many)
+dot_put-spare t i y x place new spare p m c below past = grind (arith, dots_kept)

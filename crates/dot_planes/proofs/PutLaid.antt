@@ -20,11 +20,7 @@ laid-beside row dots x c (inl left) = ap (λ b. b && (nat_lt (c - x) dots && row
 laid-beside row dots x c (inr right) = ap (λ b. nat_le x c && (b && row_dot row (c - x))) (le-ltb (c - x) dots (omega arith)) ∙ and-none _
 
 laid-inside : (row : List ℕ) (dots x k : ℕ) → k < dots → laid_dot row dots x (x + k) ≡ row_dot row k
-laid-inside row dots x k low =
-    let place : x + k - x ≡ k = omega arith in
-    ap (λ b. b && (nat_lt (x + k - x) dots && row_dot row (x + k - x))) (le-leb x (x + k) (omega arith))
-    ∙ ap (λ n. nat_lt n dots && row_dot row n) place
-    ∙ ap (λ b. b && row_dot row k) (lt-ltb k dots low)
+laid-inside row dots x k low = grind (arith, le-leb, lt-ltb)
 
 -- it is a packed row, with spare bits of 0
 pub laid-packed : (t : DotTable) (i y x : ℕ) (row : List ℕ) (dots : ℕ) (over : List ℕ) → IsLaidOver t i y x row dots over

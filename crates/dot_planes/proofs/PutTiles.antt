@@ -45,13 +45,6 @@ pub record PutsRows (old new : DotTable) (first height : ℕ) (p : Place) (i end
   pub others : (j y x : ℕ) → y < old.rows → (j ≢ i) ⊎ ((row offset : ℕ)
       → row < end → ¬ IsTilePixel old first height p row offset y x) → dot new j y x ≡ dot old j y x
 
-pub no_rows : (t : DotTable) (first height : ℕ) (p : Place) (i : ℕ) (bytes : List ℕ) → PutsRows t t first height p i 0 bytes
-no_rows t first height p i bytes = record {
-  size = record { width = refl; rows = refl; inks = refl };
-  pixels = λ row offset y x before q. absurd (omega arith);
-  others = λ j y x low where_is. refl;
-}
-
 -- the bytes of a row of a tile
 pub row_of_tile : (bytes row : List ℕ) (r offset : ℕ)
     → row ≡ row_at 8 bytes r → offset < 64 → row_dot row offset ≡ row_dot bytes (64 * r + offset)
@@ -140,12 +133,7 @@ pub record PutsInks (old new : DotTable) (first height : ℕ) (p : Place) (end :
 
 same_pixel : (t u : DotTable) (first height : ℕ) (p : Place) (row offset y x : ℕ)
     → u.width ≡ t.width → IsTilePixel t first height p row offset y x → IsTilePixel u first height p row offset y x
-same_pixel t u first height p row offset y x same q = record {
-  slab_row = q.slab_row;
-  down = q.down;
-  pixel = record { across = omega (arith, q.pixel.across); down = q.pixel.down };
-  place = q.place;
-}
+same_pixel t u first height p row offset y x same q = grind arith
 
 pub inks_more : (old mid new : DotTable) (first height : ℕ) (p : Place) (n : ℕ) (bytes : List ℕ) (bits : List (List ℕ))
     → first + height ≤ old.rows → ((k : ℕ) → row_dot bytes k ≡ row_dot (slice_index_or bits n []) k)
@@ -178,11 +166,7 @@ inks_more old mid new first height p n bytes bits room is before now =
 
 pub all_inks : (old new : DotTable) (first height : ℕ) (p : Place) (bits : List (List ℕ)) (end : ℕ) → end ≡ old.inks
     → PutsInks old new first height p end bits → PutsTile old new first height p bits
-all_inks old new first height p bits end end_is r = record {
-  size = r.size;
-  pixels = λ i row offset y x below q. r.pixels i row offset y x (omega arith) q;
-  others = λ i y x down none. r.others i y x down (inr none);
-}
+all_inks old new first height p bits end end_is r = grind arith
 
 -- ---- no dots
 

@@ -1,6 +1,6 @@
 -- Bytes that are filled up with 0 as far as they are needed.
 use Rattle.std.proofs.Common.{◌≡◌, ℕ, ◌+◌, ◌-◌, ◌*◌, ◌<◌, ◌≤◌, List, ◌++◌, length, take, drop, replicate, set, max}
-use Rattle.std.proofs.Common.{◌∙◌, ap, arith, refl, sym, inl, inr, length-append, length-drop}
+use Rattle.std.proofs.Common.{◌∙◌, ap, arith, inl, inr, length-append, length-drop}
 use Rattle.std.proofs.lemmas.Bool.{cases_lt}
 use Rattle.std.proofs.lemmas.List.{append_assoc, drop-append-le, drop-replicate, length-replicate, length-set, replicate-append-replicate}
 use Rattle.std.proofs.lemmas.List.{set-append_left, take-append-le, take-replicate}
@@ -16,59 +16,27 @@ abbrev pub padded : ℕ → List ℕ → List ℕ
 padded total xs = xs ++ replicate (total - length xs) 0
 
 pub padded-len : (total : ℕ) (xs : List ℕ) → length xs ≤ total → length (padded total xs) ≡ total
-padded-len total xs room = omega (
-  arith,
-  length-append xs (replicate {A = ℕ} (total - length xs) 0),
-  length-replicate {A = ℕ} (total - length xs) 0,
-)
+padded-len total xs room = grind (arith, length-append, length-replicate)
 
 -- what was filled up already
 pub padded-again : (total end : ℕ) (xs : List ℕ) → end ≤ total → padded total (padded end xs) ≡ padded total xs
-padded-again total end xs room =
-    let first : List ℕ = replicate {A = ℕ} (end - length xs) 0 in
-    let many : end - length xs + (total - length (xs ++ first)) ≡ total - length xs = omega (
-      arith,
-      length-append xs first,
-      length-replicate {A = ℕ} (end - length xs) 0,
-    ) in
-    append_assoc xs first (replicate {A = ℕ} (total - length (xs ++ first)) 0)
-    ∙ ap (λ (zs : List ℕ). xs ++ zs) (replicate-append-replicate {A = ℕ} (end - length xs) (total - length (xs ++ first)) 0
-    ∙ ap (λ n. replicate {A = ℕ} n 0) many)
+padded-again total end xs room = grind (arith, append_assoc, length-append, length-replicate, replicate-append-replicate)
 
 -- a write to a part of the bytes that are there
 put-padded : (a k total : ℕ) (xs ys : List ℕ) → a + k ≤ length xs → length ys ≡ k
     → padded total (put_mid a k xs ys) ≡ put_mid a k (padded total xs) ys
-put-padded a k total xs ys room many =
-    let more : List ℕ = replicate {A = ℕ} (total - length xs) 0 in
-    let rest : List ℕ = drop k (drop a xs) in
-    let front : take a (xs ++ more) ≡ take a xs = take-append-le a xs more (omega arith) in
-    let back : drop k (drop a (xs ++ more)) ≡ rest ++ more =
-    ap (drop k) (drop-append-le a xs more (omega arith))
-    ∙ drop-append-le k (drop a xs) more (omega (arith, length-drop a xs)) in
-    ap (λ n. put_mid a k xs ys ++ replicate {A = ℕ} (total - n) 0) (put_len a k xs ys room many)
-    ∙ append_assoc (take a xs) (ys ++ rest) more
-    ∙ ap (λ (zs : List ℕ). take a xs ++ zs) (append_assoc ys rest more)
-    ∙ ap (λ (zs : List ℕ). zs ++ (ys ++ (rest ++ more))) (sym front)
-    ∙ ap (λ (zs : List ℕ). take a (xs ++ more) ++ (ys ++ zs)) (sym back)
+put-padded a k total xs ys room many = grind (arith, append_assoc, drop-append-le, length-drop, put_len, take-append-le)
 
 -- a vector after it was filled up and a part of it was written
 pub put_reached : (a k end len total : ℕ) (items reached xs part : List ℕ) → reached ≡ padded end items → xs ≡ reached → length reached ≡ len
     → a + k ≤ len → length part ≡ k → end ≤ total
     → padded total (take len (put_mid a k xs part ++ drop (length (put_mid a k xs part)) reached)) ≡ put_mid a k (padded total items) part
-put_reached a k end len total items reached xs part is same len_is room many most =
-    ap (padded total) (put_items a k len xs part reached part same refl len_is room many)
-    ∙ put-padded a k total reached part (omega arith) many
-    ∙ ap (λ (zs : List ℕ). put_mid a k (padded total zs) part) is
-    ∙ ap (λ (zs : List ℕ). put_mid a k zs part) (padded-again total end items most)
+put_reached a k end len total items reached xs part is same len_is room many most = grind (arith, padded, padded-again, put-padded, put_items)
 
 -- a byte that is there
 pub set_reached : (place end total b : ℕ) (items reached : List ℕ) → reached ≡ padded end items → place < length reached → end ≤ total
     → padded total (set reached place b) ≡ set (padded total items) place b
-set_reached place end total b items reached is room most =
-    ap (λ n. set reached place b ++ replicate {A = ℕ} (total - n) 0) (length-set reached place b)
-    ∙ sym (set-append_left reached (replicate {A = ℕ} (total - length reached) 0) place b room)
-    ∙ ap (λ (zs : List ℕ). set (padded total zs) place b) is
-    ∙ ap (λ (zs : List ℕ). set zs place b) (padded-again total end items most)
+set_reached place end total b items reached is room most = grind (arith, length-set, padded, padded-again, set-append_left)
 
 -- ---- whole rows
 
@@ -85,16 +53,11 @@ blank_behind len n more bytes behind room =
 -- a row that is there, before and after 0 was added behind the bytes
 pub row_there : (len n more : ℕ) (bytes : List ℕ) → n * len + len ≤ length bytes
     → row_at len bytes n ≡ row_at len (bytes ++ replicate more 0) n
-row_there len n more bytes room =
-    sym (ap (take len) (drop-append-le (n * len) bytes (replicate {A = ℕ} more 0) (omega (arith, room)))
-    ∙ take-append-le len (drop (n * len) bytes) (replicate {A = ℕ} more 0) (omega (arith, room, length-drop (n * len) bytes)))
+row_there len n more bytes room = grind (arith, drop-append-le, length-drop, take-append-le)
 
 -- a row that begins inside of whole rows is one of them
 pub whole_row : (len n many : ℕ) → n * len < many * len → n * len + len ≤ many * len
-whole_row len n many inside = elim (cases_lt n many) [
-  | inl below ↦ bytes_inside len many n below
-  | inr past ↦ let no : many * len ≤ n * len = mul-le-mul_right len past in absurd (omega arith)
-]
+whole_row len n many inside = grind (arith, bytes_inside, cases_lt, mul-le-mul_right)
 
 -- whole rows, and those up to row n
 pub reached_rows : (len there n end : ℕ) (items reached : List ℕ) → reached ≡ padded end items → length items ≡ there * len → end ≡ n * len + len

@@ -1,5 +1,5 @@
 -- Rows of bytes of one length, and where they begin.
-use Rattle.std.proofs.Common.{◌≡◌, ◌≢◌, ◌⊎◌, ℕ, ◌+◌, ◌*◌, ◌<◌, ◌≤◌, List, drop, get_or, sym, ◌∙◌, ap}
+use Rattle.std.proofs.Common.{◌≡◌, ◌≢◌, ◌⊎◌, ℕ, ◌+◌, ◌*◌, ◌<◌, ◌≤◌, List, drop, get_or, ◌∙◌, ap}
 use Rattle.std.proofs.Common.{arith, inl, inr, length-take, replicate}
 use Rattle.std.proofs.lemmas.Bool.{cases_lt}
 use Rattle.std.proofs.lemmas.List.{get_or-drop, get_or-replicate, get_or-take, get_or_past, length-replicate}
@@ -54,20 +54,11 @@ no_byte len n k bytes past = get_or_past (row_at len bytes n) k 0 (omega (arith,
 -- where all bytes outside a row are unchanged, so are all other rows
 pub row_kept : (len n m : ℕ) (old new : List ℕ) → ((i : ℕ) → (i < n * len) ⊎ (n * len + len ≤ i) → get_or new i 0 ≡ get_or old i 0)
     → m ≢ n → (k : ℕ) → get_or (row_at len new m) k 0 ≡ get_or (row_at len old m) k 0
-row_kept len n m old new same other k = elim (cases_lt k len) [
-  | inl inside ↦ row_byte len m k new inside ∙ same (m * len + k) (apart len n m k other inside) ∙ sym (row_byte len m k old inside)
-  | inr past ↦ no_byte len m k new past ∙ sym (no_byte len m k old past)
-]
+row_kept len n m old new same other k = grind (arith, apart, cases_lt, no_byte, row_byte)
 
 pub zero_at : (many i : ℕ) → get_or (replicate {A = ℕ} many 0) i 0 ≡ 0
-zero_at many i = elim (cases_lt i many) [
-  | inl low ↦ get_or-replicate {A = ℕ} many i 0 0 low
-  | inr high ↦ get_or_past (replicate {A = ℕ} many 0) i 0 (omega (arith, length-replicate {A = ℕ} many 0))
-]
+zero_at many i = grind (arith, cases_lt, get_or-replicate, get_or_past, length-replicate)
 
 -- bytes that are all 0
 pub blank_row : (len many n k : ℕ) (bytes : List ℕ) → bytes ≡ replicate {A = ℕ} many 0 → get_or (row_at len bytes n) k 0 ≡ 0
-blank_row len many n k bytes blank = elim (cases_lt k len) [
-  | inl inside ↦ row_byte len n k bytes inside ∙ ap (λ (bs : List ℕ). get_or bs (n * len + k) 0) blank ∙ zero_at many (n * len + k)
-  | inr past ↦ no_byte len n k bytes past
-]
+blank_row len many n k bytes blank = grind (arith, cases_lt, no_byte, row_byte, zero_at)

@@ -1,6 +1,6 @@
 -- A packed row takes the dots of a tile's row, byte by byte.
 use Rattle.std.proofs.Common.{◌≡◌, ◌≢◌, ◌⊎◌, ℕ, ◌+◌, ◌-◌, ◌*◌, ◌/◌, ◌%◌, ◌<◌, ◌≤◌, List, get_or, length, length-set, set, sym, ◌∙◌}
-use Rattle.std.proofs.Common.{ap, arith, inl, inr, refl, subst, get_or-set_other, get_or-set_same}
+use Rattle.std.proofs.Common.{ap, arith, inl, inr, subst, get_or-set_other, get_or-set_same}
 use Rattle.std.proofs.lemmas.Bool.{cases_eq, cases_lt}
 use Rattle.base_definitions.specs.Packed.{bit_at}
 use Rattle.dot_planes.specs.Tables.{row_dot}
@@ -74,11 +74,7 @@ put_more width c r b new dots first row room t p = record {
 -- no dot of the row comes before the first byte
 pub put_none : (width c r skip shift start : ℕ) (dots row : List ℕ)
     → shift < 8 → 2 * r ≡ 8 * skip + shift → start ≡ 8 * c - (skip + 1) → PutsDots width c r (8 * start) dots row row
-put_none width c r skip shift start dots row low lean first = record {
-  len = refl;
-  pixels = λ offset x before q. let across = q.across in let no : ⊥ = omega arith in absurd no;
-  others = λ x none. refl;
-}
+put_none width c r skip shift start dots row low lean first = grind arith
 
 -- none comes after the last
 pub put_all : (width c r skip shift b end : ℕ) (dots first row : List ℕ)

@@ -39,17 +39,11 @@ taken_dot {dots} {n} {shift} k offset b m low inside here = elim (cases_lt (k + 
 
 pub taken_from : {dots : List ℕ} {n shift left right from to : ℕ} (k offset : ℕ) → IsByte dots n shift left right from to
     → 8 * n + shift + k ≡ offset + 8 → from ≤ k
-taken_from {n} k offset b here = elim (cases_lt 0 n) [
-  | inl later ↦ omega (arith, b.from_is later)
-  | inr first ↦ omega (arith, b.first_from (omega arith))
-]
+taken_from {n} k offset b here = grind (arith, cases_lt)
 
 pub taken_to : {dots : List ℕ} {n shift left right from to : ℕ} (k offset : ℕ) → IsByte dots n shift left right from to
     → k < 8 → offset < 64 → 8 * n + shift + k ≡ offset + 8 → k < to
-taken_to {n} k offset b low inside here = elim (cases_lt n 8) [
-  | inl earlier ↦ omega (arith, b.to_is earlier)
-  | inr last ↦ omega (arith, b.last_to (omega (arith, b.few)))
-]
+taken_to {n} k offset b low inside here = grind (arith, cases_lt)
 
 -- all others are unchanged
 pub not_taken : {dots : List ℕ} {n shift left right from to : ℕ} (most k : ℕ) → IsByte dots n shift left right from to

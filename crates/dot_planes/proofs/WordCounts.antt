@@ -14,17 +14,7 @@ ones-below high byte low =
 ones-eight : (a b c d e f g h : ℕ) → a < 256 → b < 256 → c < 256 → d < 256 → e < 256 → f < 256 → g < 256 → h < 256
     → count_ones (a + 256 * (b + 256 * (c + 256 * (d + 256 * (e + 256 * (f + 256 * (g + 256 * h)))))))
     ≡ count_ones a + (count_ones b + (count_ones c + (count_ones d + (count_ones e + (count_ones f + (count_ones g + count_ones h))))))
-ones-eight a b c d e f g h la lb lc ld le lf lg lh =
-    omega (
-      arith,
-      ones-below (b + 256 * (c + 256 * (d + 256 * (e + 256 * (f + 256 * (g + 256 * h)))))) a la,
-      ones-below (c + 256 * (d + 256 * (e + 256 * (f + 256 * (g + 256 * h))))) b lb,
-      ones-below (d + 256 * (e + 256 * (f + 256 * (g + 256 * h)))) c lc,
-      ones-below (e + 256 * (f + 256 * (g + 256 * h))) d ld,
-      ones-below (f + 256 * (g + 256 * h)) e le,
-      ones-below (g + 256 * h) f lf,
-      ones-below h g lg,
-    )
+ones-eight a b c d e f g h la lb lc ld le lf lg lh = simp ones-below
 
 -- the word that eight bytes are has as many set digits as they have
 pub word-ones : (a b c d e f g h : ℕ) → a < 256 → b < 256 → c < 256 → d < 256 → e < 256 → f < 256 → g < 256 → h < 256

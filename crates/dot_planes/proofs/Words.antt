@@ -1,5 +1,5 @@
 -- The dots of eight bytes as one number.
-use Rattle.std.proofs.Common.{◌≡◌, ℕ, zero, suc, refl, ◌+◌, ◌-◌, ◌*◌, ◌/◌, ◌%◌, ◌^◌, ◌==◌, ◌<◌, ◌≤◌, List, length, get_or, max, sym, ◌∙◌, ap, arith, bit_or}
+use Rattle.std.proofs.Common.{◌≡◌, ℕ, zero, suc, ◌+◌, ◌-◌, ◌*◌, ◌/◌, ◌%◌, ◌^◌, ◌==◌, ◌<◌, ◌≤◌, List, length, get_or, max, sym, ◌∙◌, ap, arith, bit_or}
 use Rattle.std.proofs.Math.Nat.{mod-eq-sub-div-mul, div-mul-le_self, mod-lt}
 use Rattle.std.proofs.lemmas.Nat.{be_bytes_8}
 use Rattle.std.proofs.lemmas.Nat.Bits.{bit_at-zero, bit_at_above, bit_at_cat_high, bit_at_cat_low, bit_at_or}
@@ -20,16 +20,12 @@ written_bit n (suc (suc (suc zero))) j few low = byte_bit n 32 j low
 written_bit n (suc (suc (suc (suc zero)))) j few low = byte_bit n 24 j low
 written_bit n (suc (suc (suc (suc (suc zero))))) j few low = byte_bit n 16 j low
 written_bit n (suc (suc (suc (suc (suc (suc zero)))))) j few low = byte_bit n 8 j low
-written_bit n (suc (suc (suc (suc (suc (suc (suc zero))))))) j few low =
-    let place : j ≡ 8 * (7 - 7) + j = omega arith in
-    low_bit n j low ∙ ap (bit n) place
+written_bit n (suc (suc (suc (suc (suc (suc (suc zero))))))) j few low = grind (arith, low_bit)
 written_bit n (suc (suc (suc (suc (suc (suc (suc (suc i)))))))) j few low = absurd (omega arith)
 
 pub read_bit : (bs : List ℕ) (i j : ℕ) → length bs ≡ 8 → ((k : ℕ) → get_or bs k 0 < 256) → i < 8 → j < 8
     → bit (from_be_bytes w64 bs) (8 * (7 - i) + j) ≡ bit (get_or bs i 0) j
-read_bit bs i j len fits few low =
-    sym (written_bit (from_be_bytes w64 bs) i j few low)
-    ∙ ap (λ (bytes : List ℕ). bit (get_or bytes i 0) j) (be_bytes_8 bs (from_be_bytes w64 bs) len fits refl)
+read_bit bs i j len fits few low = grind (arith, be_bytes_8, written_bit)
 
 -- ---- a number that is moved to the left, with a few other bits after it
 

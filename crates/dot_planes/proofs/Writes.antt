@@ -1,5 +1,5 @@
 -- What a write to a part of bytes leaves, byte by byte.
-use Rattle.std.proofs.Common.{◌≡◌, ◌⊎◌, ℕ, ◌+◌, ◌-◌, ◌<◌, ◌≤◌, List, ◌++◌, length, take, drop, get_or, ◌∙◌, ap, arith}
+use Rattle.std.proofs.Common.{◌≡◌, ◌⊎◌, ℕ, ◌+◌, ◌-◌, ◌<◌, ◌≤◌, List, ◌++◌, length, take, drop, get_or, ◌∙◌, arith}
 use Rattle.std.proofs.Common.{inl, inr, length-append, length-drop, length-take}
 use Rattle.std.proofs.lemmas.List.{get_or-append_right, get_or-drop, get_or-take, get_or_append_left, take_at}
 use borrow.Rule.Slice.PartMut.{put_mid}
@@ -14,21 +14,11 @@ put_below a k i xs ys room below =
 
 -- those of the part
 pub put_inside : (a k i : ℕ) (xs ys : List ℕ) → a ≤ length xs → i < length ys → get_or (put_mid a k xs ys) (a + i) 0 ≡ get_or ys i 0
-put_inside a k i xs ys room inside =
-    let place : a + i - a ≡ i = omega arith in
-    get_or-append_right (take a xs) _ a (a + i) 0 (front_len a xs room) (omega arith)
-    ∙ ap (λ n. get_or (ys ++ drop k (drop a xs)) n 0) place
-    ∙ get_or_append_left ys _ 0 i inside
+put_inside a k i xs ys room inside = grind (arith, front_len, get_or-append_right, get_or_append_left)
 
 -- and those after it
 pub put_above : (a k i : ℕ) (xs ys : List ℕ) → a ≤ length xs → length ys ≡ k → a + k ≤ i → get_or (put_mid a k xs ys) i 0 ≡ get_or xs i 0
-put_above a k i xs ys room len above =
-    let place : a + (k + (i - a - k)) ≡ i = omega arith in
-    get_or-append_right (take a xs) _ a i 0 (front_len a xs room) (omega arith)
-    ∙ get_or-append_right ys _ k (i - a) 0 len (omega arith)
-    ∙ get_or-drop k (drop a xs) (i - a - k) 0
-    ∙ get_or-drop a xs (k + (i - a - k)) 0
-    ∙ ap (λ n. get_or xs n 0) place
+put_above a k i xs ys room len above = grind (arith, front_len, get_or-append_right, get_or-drop)
 
 -- bytes outside of the part
 pub put_outside : (a k from end : ℕ) (xs ys : List ℕ)
@@ -38,21 +28,9 @@ put_outside a k from end xs ys room len low high i (inl below) = put_below a k i
 put_outside a k from end xs ys room len low high i (inr above) = put_above a k i xs ys room len (omega arith)
 
 pub put_len : (a k : ℕ) (xs ys : List ℕ) → a + k ≤ length xs → length ys ≡ k → length (put_mid a k xs ys) ≡ length xs
-put_len a k xs ys room len =
-    omega (
-      arith,
-      length-append (take a xs) (ys ++ drop k (drop a xs)),
-      length-append ys (drop k (drop a xs)),
-      length-take a xs,
-      length-drop k (drop a xs),
-      length-drop a xs,
-    )
+put_len a k xs ys room len = grind (arith, length-append, length-drop, length-take)
 
 -- a vector after a write to a part of it
 pub put_items : (a k len : ℕ) (xs ys items part : List ℕ) → xs ≡ items → ys ≡ part → length items ≡ len → a + k ≤ len → length part ≡ k
     → take len (put_mid a k xs ys ++ drop (length (put_mid a k xs ys)) items) ≡ put_mid a k items part
-put_items a k len xs ys items part same written len_is room many =
-    let put : put_mid a k xs ys ≡ put_mid a k items part =
-    ap (λ (zs : List ℕ). put_mid a k zs ys) same ∙ ap (λ (zs : List ℕ). put_mid a k items zs) written in
-    take_at (put_mid a k xs ys) (drop (length (put_mid a k xs ys)) items) len (ap length put
-    ∙ put_len a k items part (omega arith) many ∙ len_is) ∙ put
+put_items a k len xs ys items part same written len_is room many = grind (arith, put_len, take_at)

@@ -149,7 +149,8 @@ same_front byte (suc n) (b ∷ row) within are =
 
 -- as many, where the next one is another
 pub same_none : (byte n : ℕ) (row : List ℕ) → n < length row → ((i : ℕ) → i < n → get_or row i 0 ≡ byte) → get_or row n 0 ≢ byte → n ≡ same byte row
-same_none byte n row less are other = omega (arith, same_front byte n row (omega arith) are, none (drop n row) (omega (arith, length-drop n row)) first)
+same_none byte n row less are other =
+    omega (arith, same_front byte n row (omega arith) are, none (drop n row) (omega (arith, length-drop n row)) first)
   where
     first : get_or (drop n row) 0 0 ≢ byte
     first e = other (ap (λ k. get_or row k 0) (let e : n ≡ n + 0 = omega arith in e) ∙ sym (get_or-drop n row 0 0) ∙ e)

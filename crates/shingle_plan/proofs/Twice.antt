@@ -1,17 +1,18 @@
 -- The list of firings has each row of the window exactly twice. Each half of the head is a weave by half the nozzles:
 -- over the window as it is for the lower half, and for the upper half with as many rows above it as that is ahead.
+use Rattle.std.proofs.lemmas.Grind.{common_steps}
 use Rattle.std.proofs.Common.{◌≡◌, ℕ, zero, suc, ◌+◌, ◌-◌, ◌*◌, ◌/◌, ◌<◌, ◌≤◌, Bool, true, false, not, ◌&&◌, ◌==◌, nat_lt, nat_le}
 use Rattle.std.proofs.Common.{if◌then◌else◌, List, [], ◌∷◌, refl, sym, ◌∙◌, ap, arith, zero-add}
 use Rattle.std.proofs.lemmas.Bool.{and_from, and_left, and_parts, and_right, eq-eqb, eqb-true, false_from_ne_true, le-leb, le-ltb, lt-leb, lt-ltb}
 use Rattle.std.proofs.lemmas.Bool.{ltb-false, ltb-true, not_from_false}
 use Rattle.std.proofs.lemmas.List.Sums.{sum_by-cons}
 use Rattle.std.proofs.lemmas.Nat.{div-add-mod'}
-use Rattle.std.specs.List.{count_by, flat_map, sum_by}
+use Rattle.std.specs.List.{count_by, sum_by}
 use Rattle.base_definitions.specs.Counting.{count_from}
-use Rattle.weave_definitions.specs.Weave.{Firing, firing, nozzle_row, pass_count, passes}
+use Rattle.weave_definitions.specs.Weave.{Firing, pass_count, passes}
 use Rattle.weave_definitions.proofs.Firings.{count-flat, each_row as each_weave_row, sum-none, sum-same}
 use Rattle.shingle_plan.specs.Fits.{Shingles}
-use Rattle.shingle_plan.specs.Shingles.{FiresEachRowTwice, Shingle, fires_even, half, rows_above, shingle, shingle_count, shingle_row, shingles}
+use Rattle.shingle_plan.specs.Shingles.{FiresEachRowTwice, Shingle, fires_even, half, shingle_count, shingle_row, shingles}
 use Rattle.shingle_plan.proofs.Rows.{IsOnly, count-miss, lands, meets, times, weave_times}
 
 -- ---- sums
@@ -46,20 +47,9 @@ sum-along g h from to (suc many) same =
 -- a sum in two parts
 sum-split : (g : ℕ → ℕ) (from k m all : ℕ) → all ≡ k + m
     → sum_by g (count_from from all) ≡ sum_by g (count_from from k) + sum_by g (count_from (from + k) m)
-sum-split g from zero m all e =
-    let many : all ≡ m = omega (arith, e) in
-    let start : from ≡ from + 0 = omega arith in
-    ap (λ v. sum_by g (count_from from v)) many ∙ ap (λ v. sum_by g (count_from v m)) start ∙ sym (zero-add _)
+sum-split g from zero m all e = grind (arith, zero-add)
 sum-split g from (suc k) m zero e = absurd (omega (arith, e))
-sum-split g from (suc k) m (suc all) e =
-    let start : from + 1 + k ≡ from + suc k = omega arith in
-    omega (
-      arith,
-      sum_by-cons g from (count_from (from + 1) all),
-      sum_by-cons g from (count_from (from + 1) k),
-      sum-split g (from + 1) k m all (omega (arith, e)),
-      ap (λ v. sum_by g (count_from v m)) start,
-    )
+sum-split g from (suc k) m (suc all) e = grind (arith, sum_by-cons, sum-split g (from + 1) k m all (omega (arith, e)))
 
 -- ---- nozzle by nozzle in each of some passes
 
@@ -67,28 +57,15 @@ abbrev table : (ℕ → ℕ → ℕ) → ℕ → ℕ → ℕ
 table g nozzles passes = sum_by (λ t. sum_by (λ i. g t i) (count_from 0 nozzles)) (count_from 0 passes)
 
 table-none : (g : ℕ → ℕ → ℕ) (nozzles passes : ℕ) → ((t i : ℕ) → g t i ≡ 0) → table g nozzles passes ≡ 0
-table-none g nozzles passes none =
-    sum-none (λ t. sum_by (λ i. g t i) (count_from 0 nozzles)) 0 passes (λ t from below.
-    sum-none (λ i. g t i) 0 nozzles (λ i first last. none t i))
+table-none g nozzles passes none = simp sum-none
 
 all-shingles : (test : Shingle → Bool) (n pitch height : ℕ)
     → count_by test (shingles n pitch height) ≡ table (λ t i. times test n pitch height t i) n (shingle_count n pitch height)
-all-shingles test n pitch height =
-    let rows : ℕ → ℕ → List Shingle = λ t i. shingle t i (fires_even n i) (shingle_row n pitch height t i) in
-    count-flat test (λ t. flat_map (rows t) (count_from 0 n)) (count_from 0 (shingle_count n pitch height))
-    ∙ sum-same (λ t. count_by test (flat_map (rows t) (count_from 0 n)))
-    (λ t. sum_by (λ i. times test n pitch height t i) (count_from 0 n)) (count_from 0 (shingle_count n pitch height))
-    (λ t. count-flat test (rows t) (count_from 0 n))
+all-shingles test n pitch height = simp (count-flat, sum-same, times)
 
 all-weaves : (n pitch height y : ℕ) → count_by (λ (f : Firing). f.row == y) (passes n pitch height)
     ≡ table (λ t i. weave_times n pitch height y t i) n (pass_count n pitch height)
-all-weaves n pitch height y =
-    let test : Firing → Bool = λ f. f.row == y in
-    let rows : ℕ → ℕ → List Firing = λ t i. firing t i (nozzle_row n pitch height t i) in
-    count-flat test (λ t. flat_map (rows t) (count_from 0 n)) (count_from 0 (pass_count n pitch height))
-    ∙ sum-same (λ t. count_by test (flat_map (rows t) (count_from 0 n)))
-    (λ t. sum_by (λ i. weave_times n pitch height y t i) (count_from 0 n)) (count_from 0 (pass_count n pitch height))
-    (λ t. count-flat test (rows t) (count_from 0 n))
+all-weaves n pitch height y = simp (count-flat, sum-same, weave_times)
 
 -- the nozzles of a pass are those of the upper half, those of the lower half, and one more of an odd number
 pass-halves : (g upper lower : ℕ → ℕ) (n : ℕ) → ((i : ℕ) → i < half n → g i ≡ upper i)
@@ -153,9 +130,7 @@ abbrev weave_table : ℕ → ℕ → ℕ → ℕ → ℕ
 weave_table n pitch height z = table (λ t i. weave_times (half n) pitch (tall n pitch height) z t i) (half n) (shingle_count n pitch height)
 
 same-passes : (n pitch height : ℕ) → 1 ≤ half n → shingle_count n pitch height ≡ pass_count (half n) pitch (tall n pitch height)
-same-passes n pitch height some =
-    ap (λ v. v / half n)
-    (all-rows height (rows_above n pitch) (half n * pitch) ((half n - 1) * pitch) (half n - 1) (above-parts (half n) pitch some))
+same-passes n pitch height some = grind (arith, above-parts, all-rows)
 
 weave-once : (n pitch height z : ℕ) → Shingles n pitch → z < tall n pitch height → weave_table n pitch height z ≡ 1
 weave-once n pitch height z fits under =
@@ -168,27 +143,17 @@ weave-once n pitch height z fits under =
 upper-meets : (test : Shingle → Bool) (n pitch height y t i : ℕ) → Shingles n pitch → IsOnly test y → y < height → i < half n
     → test (record { pass = t; nozzle = i; row = y; even = fires_even n i }) ≡ true
     → times test n pitch height t i ≡ weave_times (half n) pitch (tall n pitch height) (y + half n * pitch) t i
-upper-meets test n pitch height y t i fits only low less passes =
-    meets test n pitch height y (tall n pitch height) (y + half n * pitch) t i i 0 only low (omega arith) (omega arith) passes (omega arith)
-    (upper-place y (rows_above n pitch) (half n * pitch) ((half n - 1) * pitch) (above-parts (half n) pitch fits.0))
+upper-meets test n pitch height y t i fits only low less passes = grind (arith, common_steps, above-parts, meets, tall, upper-place)
 
 lower-meets : (test : Shingle → Bool) (n pitch height y t j : ℕ) → Shingles n pitch → IsOnly test y → y < height → j < half n
     → test (record { pass = t; nozzle = half n + j; row = y; even = fires_even n (half n + j) }) ≡ true
     → times test n pitch height t (half n + j) ≡ weave_times (half n) pitch (tall n pitch height) y t j
-lower-meets test n pitch height y t j fits only low less passes =
-    let moved : (half n + j) * pitch ≡ j * pitch + half n * pitch = omega (arith, spread (half n) j pitch) in
-    meets test n pitch height y (tall n pitch height) y t (half n + j) j (half n * pitch) only low (omega arith) (omega arith) passes moved
-    (lower-place y (rows_above n pitch) (half n * pitch) ((half n - 1) * pitch) (above-parts (half n) pitch fits.0))
+lower-meets test n pitch height y t j fits only low less passes = grind (arith, common_steps, above-parts, lower-place, meets, spread, tall)
 
 -- ---- rows off the window
 
 no-row : (test : Shingle → Bool) (n pitch height y : ℕ) → IsOnly test y → height ≤ y → count_by test (shingles n pitch height) ≡ 0
-no-row test n pitch height y only high =
-    all-shingles test n pitch height
-    ∙ table-none (λ t i. times test n pitch height t i) n (shingle_count n pitch height) (λ t i.
-    count-miss test t i (fires_even n i) (shingle_row n pitch height t i) (λ r is. false_from_ne_true _ (λ passed.
-    let same : r ≡ y = only (record { pass = t; nozzle = i; row = r; even = fires_even n i }) passed in
-    let low : r < height = (lands n pitch height t i r is).low in omega (arith, same, low, high))))
+no-row test n pitch height y only high = grind (arith, all-shingles, count-miss, false_from_ne_true, lands, table-none, times)
 
 by_window : (test : Shingle → Bool) (n pitch height y many : ℕ) → IsOnly test y
     → (y < height → count_by test (shingles n pitch height) ≡ many)

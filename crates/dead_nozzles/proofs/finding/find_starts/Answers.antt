@@ -13,11 +13,7 @@ pub begins-requires-clause-maker : goal.begins-requires-clause-maker
 begins-requires-clause-maker c = (maker-of c.args.head.now c.least_live-maker.result c.requires.head (sym c.least_live-maker.ensures)).low
 
 pub starts-init : goal.starts-init
-starts-init c =
-    subst (λ (starts : List ℕ). Scan c.args.head.now c.least_live-maker.result 0 c.args.owners.now starts) (sym c.new-starts.ensures.items)
-    (scan-begin c.args.head.now c.least_live-maker.result c.args.owners.now c.requires.head
-    (maker-of c.args.head.now c.least_live-maker.result c.requires.head (sym c.least_live-maker.ensures)) (sym c.least_live-maker.ensures)
-    c.requires.passes)
+starts-init c = grind (arith, Scan, maker-of, scan-begin)
 
 pub starts-preserved : goal.starts-preserved
 starts-preserved c =

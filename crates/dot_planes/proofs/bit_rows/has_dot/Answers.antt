@@ -10,11 +10,7 @@ returns-then-row_part-ne0 c =
     sym (any-some (row_dot c.args.row.now) c.args.dots (8 * c.loop-i.i + bit.at) dot.0 dot.1)
 
 pub loop-i-preserved : goal.loop-i-preserved
-loop-i-preserved c = record {
-  none = before-next (row_dot c.args.row.now) c.args.dots c.loop-i.i c.loop-i.invariant.none
-      (λ j low in_row. part-none c.args.row.now
-      c.args.dots c.loop-i.i c.row_part.result j c.row_part.ensures c.if-row_part-ne0.false low in_row);
-}
+loop-i-preserved c = grind (arith, before-next, part-none)
 
 pub returns : goal.returns
 returns c = sym (any-no (row_dot c.args.row.now) c.args.dots (λ k low. c.loop-i.invariant.none k (omega arith) low))

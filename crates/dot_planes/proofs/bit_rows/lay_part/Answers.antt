@@ -1,4 +1,4 @@
-use Rattle.std.proofs.Common.{◌≡◌, ℕ, Bool, ◌+◌, ◌/◌, ◌||◌, ◌&&◌, ◌∙◌, List, sym, ap, arith}
+use Rattle.std.proofs.Common.{◌≡◌, ℕ, Bool, ◌+◌, ◌/◌, ◌||◌, ◌&&◌, ◌∙◌, List, ap, arith}
 use Rattle.dot_planes.specs.Laying.{is_in_bytes, laid_dot}
 use Rattle.dot_planes.specs.Tables.{row_dot}
 use Rattle.dot_planes.proofs.LaidBytes.{laid-from, laid-step, none-behind, none-laid, none-more, or-nothing}
@@ -6,11 +6,7 @@ use Rattle.dot_planes.proofs.bit_rows.lay_part.Goals as goal
 use Rattle.dot_planes.proofs.bit_rows.lay_part.Goals.{then-place-i, else-place-i}
 
 pub loop-i-init : goal.loop-i-init
-loop-i-init c = record {
-  so_far = λ d.
-      let laid : ℕ → Bool = laid_dot c.args.row.now c.args.dots c.args.x in
-      sym (ap (λ b. row_dot c.args.over.now d || b) (none-laid laid (c.args.x / 8 + c.args.from) d) ∙ or-nothing _);
-}
+loop-i-init c = grind (arith, none-laid, or-nothing)
 
 pub loop-i-preserved : goal.loop-i-preserved
 loop-i-preserved c = record {

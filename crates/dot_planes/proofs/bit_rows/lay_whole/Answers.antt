@@ -1,4 +1,4 @@
-use Rattle.std.proofs.Common.{◌≡◌, ◌+◌, ◌/◌, ◌||◌, ◌&&◌, ◌∙◌, ap, arith, sym, ℕ, Bool}
+use Rattle.std.proofs.Common.{◌≡◌, ◌+◌, ◌/◌, ◌||◌, ◌&&◌, ◌∙◌, ap, arith, ℕ}
 use Rattle.dot_planes.specs.Laying.{is_in_bytes, laid_dot}
 use Rattle.dot_planes.specs.Tables.{row_dot}
 use Rattle.dot_planes.proofs.LaidBytes.{laid-step, laid-whole, none-laid, or-nothing}
@@ -16,10 +16,4 @@ loop-i-preserved c = record {
 }
 
 pub loop-i-init : goal.loop-i-init
-loop-i-init c = record {
-  so_far = λ d.
-      let laid : ℕ → Bool = laid_dot c.args.row.now c.args.dots c.args.x in
-      let none : c.args.x / 8 + 1 + 0 ≡ c.args.x / 8 + 1 = omega arith in
-      sym (ap (λ n. row_dot c.args.over.now d || is_in_bytes (c.args.x / 8 + 1) n d && laid d) none
-      ∙ ap (λ b. row_dot c.args.over.now d || b) (none-laid laid (c.args.x / 8 + 1) d) ∙ or-nothing _);
-}
+loop-i-init c = grind (arith, none-laid, or-nothing)

@@ -1,4 +1,5 @@
-use Rattle.std.proofs.Common.{◌≡◌, ℕ, List, ◌*◌, ◌<◌, ◌%◌, ◌^◌, ◌∙◌, ap, arith, bit_or, get_or}
+use Rattle.std.proofs.lemmas.Grind.{common_steps}
+use Rattle.std.proofs.Common.{◌≡◌, ℕ, List, ◌*◌, ◌<◌, ◌%◌, ◌^◌, ◌∙◌, ap, arith, get_or}
 use Rattle.std.proofs.Math.Pow.{pow-lt}
 use Rattle.std.proofs.lemmas.Nat.{pow_pos}
 use Rattle.std.specs.Int.{w64, from_be_bytes, to_be_bytes}
@@ -8,13 +9,7 @@ use Rattle.dot_planes.proofs.tile_rows.moved_row.Goals as goal
 
 bytes_are : (c : goal.After-to_be_bytes) → c.to_be_bytes.result
     ≡ to_be_bytes w64 (moved_word (from_be_bytes w64 c.args.dots.now) c.args.shift c.args.last)
-bytes_are c =
-    let few : 2 ^ c.args.shift < 256 = pow-lt {i = c.args.shift} {j = 8} (omega (arith, c.requires.shift)) in
-    let one : 1 * 2 ^ c.args.shift % 256 ≡ 2 ^ c.args.shift = omega (arith, few) in
-    let kept : c.from.result ≡ c.args.last % 2 ^ c.args.shift = c.from.ensures ∙ ap (λ m. c.args.last % m) one in
-    c.to_be_bytes.ensures
-    ∙ ap (λ v. to_be_bytes w64 (bit_or (v * 2 ^ c.args.shift % 2 ^ 64) c.from.result)) c.from_be_bytes-row.ensures
-    ∙ ap (λ b. to_be_bytes w64 (bit_or (from_be_bytes w64 c.args.dots.now * 2 ^ c.args.shift % 2 ^ 64) b)) kept
+bytes_are c = grind (arith, pow-lt)
 
 pub returns-clause-pixels : goal.returns-clause-pixels
 returns-clause-pixels c = λ n k offset few low inside here.
@@ -23,6 +18,4 @@ returns-clause-pixels c = λ n k offset few low inside here.
     (pow_pos c.args.shift) few low inside here
 
 pub returns-clause-rest : goal.returns-clause-rest
-returns-clause-rest c = λ k low past.
-    ap (λ (bytes : List ℕ). bit_at (get_or bytes 7 0) k) (bytes_are c)
-    ∙ moved_rest c.args.dots.now c.args.shift c.args.last k low past (omega (arith, c.requires.shift))
+returns-clause-rest c = grind (arith, common_steps, moved_rest)

@@ -6,34 +6,7 @@ use Rattle.dot_planes.proofs.tile_rows.put_byte.Goals.{else-n-gt0-2, then-n-lt8-
 
 is_byte : (c : goal.After-splice)
     → IsByte c.args.dots.now c.args.n c.args.shift c.if-n-gt0.left c.if-n-lt8.right c.if-n-gt0-2.from c.if-n-lt8-2.to
-is_byte c = record {
-  few = c.requires.n;
-  low = c.requires.shift;
-  left_is = elim c.if-n-gt0.branch [
-    | then-n-gt0 w ↦ λ _. w.left-is
-    | else-n-gt0 w ↦ λ later. absurd (omega (arith, w.if-n-gt0.false))
-  ];
-  right_is = elim c.if-n-lt8.branch [
-    | then-n-lt8 w ↦ λ _. w.right-is
-    | else-n-lt8 w ↦ λ earlier. absurd (omega (arith, w.if-n-lt8.false))
-  ];
-  from_is = elim c.if-n-gt0-2.branch [
-    | then-n-gt0-2 w ↦ λ _. w.from-is
-    | else-n-gt0-2 w ↦ λ later. absurd (omega (arith, w.if-n-gt0-2.false))
-  ];
-  first_from = elim c.if-n-gt0-2.branch [
-    | then-n-gt0-2 w ↦ λ first. absurd (omega (arith, w.if-n-gt0-2.true))
-    | else-n-gt0-2 w ↦ λ _. w.from-is
-  ];
-  to_is = elim c.if-n-lt8-2.branch [
-    | then-n-lt8-2 w ↦ λ _. w.to-is
-    | else-n-lt8-2 w ↦ λ earlier. absurd (omega (arith, w.if-n-lt8-2.false))
-  ];
-  last_to = elim c.if-n-lt8-2.branch [
-    | then-n-lt8-2 w ↦ λ last. absurd (omega (arith, w.if-n-lt8-2.true))
-    | else-n-lt8-2 w ↦ λ _. w.to-is
-  ];
-}
+is_byte c = grind (arith, else-n-gt0, else-n-gt0-2, else-n-lt8, else-n-lt8-2, then-n-gt0, then-n-gt0-2, then-n-lt8, then-n-lt8-2)
 
 is_moved : (c : goal.After-splice) → IsMoved c.if-n-gt0.left c.if-n-lt8.right c.args.shift c.eight_from.result
 is_moved c = record { at_left = c.eight_from.ensures.left; at_right = c.eight_from.ensures.right }

@@ -4,10 +4,7 @@ use Rattle.dot_planes.proofs.RowsOfTiles.{put_all, put_more, put_none, takes_dot
 use Rattle.dot_planes.proofs.tile_rows.put_cut.Goals as goal
 
 pub loop-b-init : goal.loop-b-init
-loop-b-init c = record {
-  dots = put_none c.args.width c.args.c c.args.r c.args.skip c.args.shift _ _ _
-      (omega arith) c.requires.lean c.saturating_sub-start.ensures;
-}
+loop-b-init c = grind (arith, put_none)
 
 pub loop-b-preserved : goal.loop-b-preserved
 loop-b-preserved c =

@@ -14,7 +14,8 @@ pub bounds-row-0 : goal.bounds-row-0
 bounds-row-0 c = omega (arith, c.requires.equal, c.requires.some, (equal_within c.args.row.now).1)
 
 pub bounds-out-1 : goal.bounds-out-1
-bounds-out-1 c = omega (arith, length-set c.args.out.now 0 (257 - c.args.equal), c.requires.equal, c.requires.some, c.requires.room, (equal_within c.args.row.now).1)
+bounds-out-1 c =
+    omega (arith, length-set c.args.out.now 0 (257 - c.args.equal), c.requires.equal, c.requires.some, c.requires.room, (equal_within c.args.row.now).1)
 
 pub returns : goal.returns
 returns c = run_first _ _ _ c.requires.equal c.requires.some c.requires.room

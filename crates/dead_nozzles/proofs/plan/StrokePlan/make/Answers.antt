@@ -1,5 +1,4 @@
-use Rattle.std.proofs.Common.{◌≡◌, ap, arith}
-use Rattle.dead_nozzles.specs.Strokes.{Head}
+use Rattle.std.proofs.Common.{◌≡◌, arith}
 use Rattle.dead_nozzles.proofs.Strokes.{plan-small}
 use Rattle.dead_nozzles.proofs.Tables.{head-of}
 use Rattle.dead_nozzles.proofs.plan.StrokePlan.make.Goals as goal
@@ -15,11 +14,4 @@ find_starts-requires-clause-head c =
     c.requires.coprime c.requires.checked c.make-head.ensures
 
 pub returns-clause-small : goal.returns-clause-small
-returns-clause-small c =
-    let plan = c.in_ok-starts.ensures in
-    let low : c.make-head.result.height ≡ c.args.height = ap (λ (h : Head). h.height) c.make-head.ensures in
-    omega (
-      arith,
-      low,
-      plan-small c.make-head.result plan.head plan.worn.most_nozzles plan.worn.most_pitch plan.worn.most_rows,
-    )
+returns-clause-small c = grind (arith, plan-small)

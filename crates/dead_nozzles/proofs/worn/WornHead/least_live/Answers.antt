@@ -20,7 +20,4 @@ loop-nozzle-preserved c =
     c.loop-nozzle.nozzle c.from.result c.self.view_is few c.from.ensures ∙ c.if-not-self-from.false)
 
 pub unreachable-requires : goal.unreachable-requires
-unreachable-requires c =
-    let e = sym c.requires.is_live ∙ c.loop-nozzle.invariant
-    ∙ none-left c.args.self.now.dead c.args.self.now.nozzles c.loop-nozzle.nozzle
-    (omega (arith, c.loop-nozzle-test.false, ap (λ (h : Head). h.nozzles) c.self.view_is)) in cc
+unreachable-requires c = grind (arith, none-left)

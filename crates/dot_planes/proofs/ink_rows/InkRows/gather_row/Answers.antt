@@ -1,20 +1,12 @@
 use Rattle.std.proofs.Common.{arith}
 use Rattle.dot_planes.proofs.GatheredRows.{none_gathers, part_gathers}
-use Rattle.dot_planes.specs.Gathered.{shape_of}
-use Rattle.dot_planes.specs.Tables.{amount}
 use Rattle.dot_planes.proofs.ink_rows.InkRows.gather_row.Goals as goal
 
 pub returns-then-rows-y : goal.returns-then-rows-y
 returns-then-rows-y c = none_gathers _ _ _ _ _ (λ offset x y pixel at. omega (arith, pixel.down, at.down))
 
 pub returns-then-from-to : goal.returns-then-from-to
-returns-then-from-to c =
-    let a = c.args in
-    part_gathers (shape_of a.self.now) (amount a.self.now a.ink) a.place a.r c.saturating_sub-from.result c.min-to.result _ _ _
-    c.row-row.ensures.amounts
-    (λ o x in_tile across at. omega (arith, c.saturating_sub-from.ensures, at))
-    (λ o x in_tile across at. omega (arith, c.saturating_sub.ensures, c.min-to.ensures, c.row-row.ensures.len, at, across))
-    (record { part = c.copy_part.ensures.part; above = c.copy_part.ensures.above })
+returns-then-from-to c = grind (arith, part_gathers)
 
 pub returns-else-from-to : goal.returns-else-from-to
 returns-else-from-to c = none_gathers _ _ _ _ _ (λ offset x y pixel at.

@@ -17,6 +17,4 @@ pub loop-r-init : goal.loop-r-init
 loop-r-init c = no_rows _ _ _ _
 
 pub loop-r-preserved : goal.loop-r-preserved
-loop-r-preserved c = row_more _ _ _ _ _ _ c.loop-r.invariant
-    (part_gathers _ _ _ _ 0 64 _ _ _ c.row-row.ensures.amounts (λ o x in_tile across at. omega arith) (λ o x in_tile across at. in_tile)
-    (record { part = c.copy_part.ensures.part; above = c.copy_part.ensures.above }))
+loop-r-preserved c = grind (arith, part_gathers, row_more)

@@ -11,9 +11,7 @@ many c = c.row_start_across-start.result + c.row_len-len.result - c.row_start_ac
 
 is_there : (c : goal.After-self-1)
     → IsRowThere c.self.inside c.reach.new.bytes c.args.ink c.args.y c.row_start_across-start.result (many c) c.deref_mut.result.now
-is_there c = row-there _ _ c.args.ink c.args.y _ _ _
-    (is-reached _ _ _ c.args.ink c.args.y _ _ c.self.invariant c.self.view_is c.requires.ink c.requires.y
-    c.row_start_across-start.ensures.is c.row_len-len.ensures.is c.reach.ensures.items c.reach.ensures.capacity) c.deref_mut.ensures.value
+is_there c = grind (arith, is-reached, row-there)
 
 is_laid : (c : goal.After-self-1)
     → IsLaidOver (table_of c.self.inside) c.args.ink c.args.y c.args.x c.args.row.now c.args.dots c.lay_row.new.over

@@ -1,7 +1,6 @@
-use Rattle.std.proofs.Common.{◌≡◌, ◌*◌, ◌+◌, ◌-◌, ◌++◌, ◌%◌, ◌/◌, false, ℕ, List, ap, arith, inl, inr, length, replicate, ◌∙◌}
+use Rattle.std.proofs.Common.{◌≡◌, ◌*◌, ◌+◌, ◌-◌, ◌++◌, ◌%◌, ◌/◌, false, ℕ, ap, arith, inl, inr, length, ◌∙◌}
 use Rattle.std.proofs.lemmas.Bool.{cases_lt}
-use Rattle.base_definitions.specs.Packed.{bit_at}
-use Rattle.dot_planes.specs.Planes.{all_bytes, all_len, table_of}
+use Rattle.dot_planes.specs.Planes.{all_bytes, table_of}
 use Rattle.dot_planes.specs.Tables.{row_at, row_dot, row_len}
 use Rattle.dot_planes.specs.declared.planes.Planes.TheInside.{Inside}
 use Rattle.dot_planes.proofs.PackedRows.{no_bit}
@@ -17,10 +16,7 @@ turned a b d = grind arith
 
 -- no row has a dot
 no_dot : (c : goal.In_ok-bytes) (n x : ℕ) → row_dot (row_at (row_len c.args.width) (all_bytes (made c)) n) x ≡ false
-no_dot c n x =
-    ap (λ b. bit_at b (x % 8)) (blank_row (row_len c.args.width) (all_len (made c) - length c.in_ok-bytes.bytes.items) n (x / 8) (all_bytes (made c))
-    (ap (λ (bs : List ℕ). bs ++ replicate {A = ℕ} (all_len (made c) - length c.in_ok-bytes.bytes.items) 0) c.in_ok-bytes.ensures.items))
-    ∙ no_bit (x % 8)
+no_dot c n x = grind (arith, blank_row, no_bit)
 
 pub returns-clause-blank : goal.returns-clause-blank
 returns-clause-blank c = λ i y x. elim (cases_lt i c.args.inks) [

@@ -1,3 +1,4 @@
+use Rattle.std.proofs.lemmas.Grind.{common_steps}
 use Rattle.std.proofs.Common.{◌≡◌, ◌+◌, ◌*◌, ◌/◌, ◌%◌, ◌-◌, ◌^◌, ◌<◌, ℕ, ap, arith, bit_or, get_or}
 use Rattle.std.proofs.lemmas.List.{get_or_read}
 use Rattle.dot_planes.specs.Planes.{all_bytes}
@@ -21,11 +22,7 @@ across c = let width : c.self.inside.width ≡ c.args.self.now.width = ap (λ (t
 
 byte_is : (c : goal.After-self-1)
     → byte c ≡ bit_or (get_or c.reach.new.bytes.items (c.row_start_across-start.result + c.args.x / 8) 0) (1 * 2 ^ (7 - c.args.x % 8) % 256)
-byte_is c =
-    let there = end-there _ _ _ _ _ _ (is_reached c) in
-    ap (λ b. bit_or b (1 * 2 ^ (7 - c.args.x % 8) % 256))
-    (get_or_read c.reach.new.bytes.items (c.row_start_across-start.result + c.args.x / 8) c.index_mut.result.now
-    (omega (arith, there, across c, c.row_len-len.ensures.is)) c.index_mut.ensures.value 0)
+byte_is c = grind (arith, common_steps, end-there, get_or_read)
 
 pub returns : goal.returns
 returns c = turns_on _ _ c.args.ink c.args.y c.args.x _
