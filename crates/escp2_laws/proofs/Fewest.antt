@@ -1,5 +1,6 @@
 -- What a row costs, by its first packet.
-use Rattle.std.proofs.Common.{◌≡◌, ℕ, zero, suc, ◌+◌, ◌-◌, ◌*◌, ◌<◌, ◌≤◌, ◌==◌, ◌⊎◌, inl, inr, Bool, true, false, if◌then◌else◌, List, [], ◌∷◌, ◌++◌, length, take, drop, map, min, replicate, get_or, refl, sym, ◌∙◌, ap, subst, arith, length-append, eq-eqb}
+use Rattle.std.proofs.lemmas.Grind.{common_steps}
+use Rattle.std.proofs.Common.{◌≡◌, ℕ, zero, suc, ◌+◌, ◌-◌, ◌*◌, ◌<◌, ◌≤◌, ◌==◌, ◌⊎◌, inl, inr, if◌then◌else◌, List, [], ◌∷◌, ◌++◌, length, take, drop, map, min, replicate, get_or, refl, sym, ◌∙◌, ap, arith, length-append, eq-eqb}
 use Rattle.std.specs.List.{flat_map, take_while, AllByRecursion}
 use Rattle.std.proofs.lemmas.Bool.{eqb-true, cases_lt}
 use Rattle.std.proofs.lemmas.List.{length-replicate, length-take-le, drop_at}
@@ -41,11 +42,7 @@ has_right p (q ∷ ps) qs h = inr (has_right p ps qs h)
 has_either : (p : RowPacket) (ps qs : List RowPacket) → Has p (ps ++ qs) → Has p ps ⊎ Has p qs
 has_either p [] qs h = inr h
 has_either p (q ∷ ps) qs (inl e) = inl (inl e)
-has_either p (q ∷ ps) qs (inr h) = by_rest (has_either p ps qs h)
-  where
-    by_rest : Has p ps ⊎ Has p qs → Has p (q ∷ ps) ⊎ Has p qs
-    by_rest (inl k) = inl (inr k)
-    by_rest (inr k) = inr k
+has_either p (q ∷ ps) qs (inr h) = grind (arith, Has, has_either p ps qs h)
 
 has_run : (n k byte : ℕ) → 2 ≤ k → k ≤ n → Has (Repeat k byte) (runs n byte)
 unfolding runs
@@ -78,9 +75,7 @@ unfolding runs
 run_of zero byte p h = absurd h
 run_of (suc zero) byte p h = absurd h
 run_of (suc (suc n)) byte p (inl e) = record { count = suc (suc n); some = omega arith; few = omega arith; is = sym e }
-run_of (suc (suc n)) byte p (inr h) =
-    let rest : IsRun (suc n) byte p = run_of (suc n) byte p h in
-    record { count = rest.count; some = rest.some; few = omega (arith, rest.few); is = rest.is }
+run_of (suc (suc n)) byte p (inr h) = grind (arith, run_of (suc n) byte p h)
 
 -- A literal of so many bytes, of at most n.
 pub record IsLiteral (n : ℕ) (row : List ℕ) (p : RowPacket) : Type 0 where
@@ -93,9 +88,7 @@ literal_of : (n : ℕ) (row : List ℕ) (p : RowPacket) → Has p (literals n ro
 unfolding literals
 literal_of zero row p h = absurd h
 literal_of (suc n) row p (inl e) = record { count = suc n; some = omega arith; few = omega arith; is = sym e }
-literal_of (suc n) row p (inr h) =
-    let rest : IsLiteral n row p = literal_of n row p h in
-    record { count = rest.count; some = rest.some; few = omega (arith, rest.few); is = rest.is }
+literal_of (suc n) row p (inr h) = grind (arith, literal_of n row p h)
 
 -- ---- the least
 
@@ -128,30 +121,18 @@ abbrev pub same : ℕ → List ℕ → ℕ
 same byte row = length (take_while (λ other. other == byte) row)
 
 pub same_cons : (byte b : ℕ) (row : List ℕ) → same byte (b ∷ row) ≡ (if b == byte then 1 + same byte row else 0)
-same_cons byte b row = ap length (take_while-cons (λ other. other == byte) b row) ∙ by_test (b == byte)
-  where
-    by_test : (t : Bool) → length (if t then b ∷ take_while (λ other. other == byte) row else []) ≡ (if t then 1 + same byte row else 0)
-    by_test true = omega arith
-    by_test false = refl
+same_cons byte b row = grind (arith, same, take_while-cons)
 
 pub same_more : (byte b : ℕ) (row : List ℕ) → b ≡ byte → same byte (b ∷ row) ≡ 1 + same byte row
 same_more byte b row e = same_cons byte b row ∙ ap (λ t. if t then 1 + same byte row else 0) (eq-eqb b byte e)
 
 -- the first of equal bytes
 pub same_first : (byte b : ℕ) (row : List ℕ) → 1 ≤ same byte (b ∷ row) → b ≡ byte
-same_first byte b row some = by_test (b == byte) refl (same_cons byte b row)
-  where
-    by_test : (t : Bool) → (b == byte) ≡ t → same byte (b ∷ row) ≡ (if t then 1 + same byte row else 0) → b ≡ byte
-    by_test true e is = eqb-true b byte e
-    by_test false e is = absurd (omega (arith, is))
+same_first byte b row some = grind (arith, eqb-true, same, same_cons)
 
 pub same_within : (byte : ℕ) (row : List ℕ) → same byte row ≤ length row
 same_within byte [] = omega arith
-same_within byte (b ∷ row) = by_test (b == byte) (same_cons byte b row) (same_within byte row)
-  where
-    by_test : (t : Bool) → same byte (b ∷ row) ≡ (if t then 1 + same byte row else 0) → same byte row ≤ length row → same byte (b ∷ row) ≤ length (b ∷ row)
-    by_test true is within = omega (arith, is, within)
-    by_test false is within = omega (arith, is)
+same_within byte (b ∷ row) = grind (arith, same, same_cons, same_within byte row)
 
 pub same_front : (byte n : ℕ) (row : List ℕ) → n ≤ same byte row → row ≡ replicate n byte ++ drop n row
 same_front byte zero row few = refl
@@ -175,11 +156,7 @@ equal_within row = (omega (arith, equal_is row), omega (arith, equal_is row, sam
 -- the equal bytes behind the first byte
 pub equal_behind : (b : ℕ) (row : List ℕ) (n : ℕ) → 1 ≤ n → suc n ≤ equal_at (b ∷ row) → n ≤ equal_at row
 equal_behind b [] n some few = absurd (omega (arith, (equal_within (b ∷ [])).1))
-equal_behind b (c ∷ row) n some few =
-    let behind : n ≤ same b (c ∷ row) = omega (arith, equal_is (b ∷ c ∷ row), same_more b b (c ∷ row) refl) in
-    let first : c ≡ b = same_first b c row (omega arith) in
-    let as_first : n ≤ same c (c ∷ row) = let P : ℕ → Type 0 = λ k. n ≤ same k (c ∷ row) in subst P (sym first) behind in
-    omega (arith, equal_is (c ∷ row), equal_is (b ∷ c ∷ row))
+equal_behind b (c ∷ row) n some few = grind (arith, common_steps, equal_is, same, same_first, same_more)
 
 -- ---- what a row costs
 
@@ -196,9 +173,7 @@ has_run_at row n some few =
 pub cost_is : (b : ℕ) (row : List ℕ) (p : RowPacket) (n : ℕ) → length (packet_row p) ≡ suc n → n ≤ length row
     → cost_from (costs row) p ≡ length (packet_code p) + fewest (drop n row)
 unfolding cost_from
-cost_is b row p n len within =
-    let before : length (packet_row p) - 1 ≡ n = omega arith in
-    ap (λ k. length (packet_code p) + get_or (costs row) k 0) before ∙ ap (λ k. length (packet_code p) + k) (costs_drop n row within)
+cost_is b row p n len within = grind (arith, costs_drop)
 
 fewest_le : (b : ℕ) (row : List ℕ) (p : RowPacket) → Has p (packets_at (b ∷ row)) → fewest (b ∷ row) ≤ cost_from (costs row) p
 unfolding costs
@@ -276,12 +251,7 @@ reached_at b row = reached_of _ _ (Bytes (take 1 (b ∷ row))) (has_literal_at (
 
 pub shape_at : (row : List ℕ) (p : RowPacket) → Has p (packets_at row) → IsRun (equal_at row) (get_or row 0 0) p ⊎ IsLiteral (min 128 (length row)) row p
 unfolding packets_at
-shape_at row p h = by_side (has_either p (runs (equal_at row) (get_or row 0 0)) (literals (min 128 (length row)) row) h)
-  where
-    by_side : Has p (runs (equal_at row) (get_or row 0 0)) ⊎ Has p (literals (min 128 (length row)) row)
-        → IsRun (equal_at row) (get_or row 0 0) p ⊎ IsLiteral (min 128 (length row)) row p
-    by_side (inl h) = inl (run_of _ _ p h)
-    by_side (inr h) = inr (literal_of _ row p h)
+shape_at row p h = grind (arith, Has, has_either, literal_of, run_of)
 
 pub first_step : (b : ℕ) (row : List ℕ) → ByLiteral (b ∷ row) ⊎ ByRun (b ∷ row)
 unfolding costs

@@ -27,14 +27,7 @@ pub record Front (bytes code : List ℕ) (at next : ℕ) : Type 0 where
 -- one code after another
 front-join : (bytes code more : List ℕ) (at next last : ℕ) → Front bytes code at next → Front (drop (next - at) bytes) more next last
     → Front bytes (code ++ more) at last
-front-join bytes code more at next last first second = record {
-  place = omega (arith, first.place, second.place, length-append code more);
-  is =
-      let both : next - at + (last - next) ≡ last - at = omega (arith, first.place, second.place) in
-      first.is
-      ∙ ap (λ bs. code ++ bs) (second.is ∙ ap (λ bs. more ++ bs) (drop-drop (last - next) (next - at) bytes ∙ ap (λ k. drop k bytes) both))
-      ∙ sym (append_assoc code more (drop (last - at) bytes));
-}
+front-join bytes code more at next last first second = grind (arith, append_assoc, drop-drop, length-append)
 
 -- ---- a packet
 
@@ -133,31 +126,19 @@ packet-read left at (n ∷ bytes) row next are is = by_low (nat_lt n 128) refl i
 pub row-step : (most left at : ℕ) (bytes front : List ℕ) (next : ℕ) → packet_at (suc left) at bytes ≡ RowsAre front next
     → row_at (suc most) (suc left) at bytes ≡ with_front front (row_at most (suc left - length front) next (drop (next - at) bytes))
 unfolding row_at
-row-step most left at bytes front next e = ap (λ (r : RowsRead). elim r [
-  | RowsAre front next ↦ with_front front (row_at most (suc left - length front) next (drop (next - at) bytes))
-  | RowsPart ↦ RowsPart
-  | RowsWrong place ↦ RowsWrong place
-]) e
+row-step most left at bytes front next e = cc
 
 -- a row is a part where its next packet is
 pub row-part : (most left at : ℕ) (bytes : List ℕ) → packet_at (suc left) at bytes ≡ RowsPart
     → row_at (suc most) (suc left) at bytes ≡ RowsPart
 unfolding row_at
-row-part most left at bytes e = ap (λ (r : RowsRead). elim r [
-  | RowsAre front next ↦ with_front front (row_at most (suc left - length front) next (drop (next - at) bytes))
-  | RowsPart ↦ RowsPart
-  | RowsWrong place ↦ RowsWrong place
-]) e
+row-part most left at bytes e = cc
 
 -- a row is refused where its next packet is
 pub row-wrong : (most left at : ℕ) (bytes : List ℕ) (place : ℕ) → packet_at (suc left) at bytes ≡ RowsWrong place
     → row_at (suc most) (suc left) at bytes ≡ RowsWrong place
 unfolding row_at
-row-wrong most left at bytes place e = ap (λ (r : RowsRead). elim r [
-  | RowsAre front next ↦ with_front front (row_at most (suc left - length front) next (drop (next - at) bytes))
-  | RowsPart ↦ RowsPart
-  | RowsWrong place ↦ RowsWrong place
-]) e
+row-wrong most left at bytes place e = cc
 
 -- Packets that are read as the rest of a row.
 record ReadRow (left at : ℕ) (bytes row : List ℕ) (next : ℕ) : Type 0 where
@@ -169,17 +150,7 @@ record ReadRow (left at : ℕ) (bytes row : List ℕ) (next : ℕ) : Type 0 wher
 
 -- nothing is left of a row
 none-read : (at : ℕ) (bytes row : List ℕ) (next : ℕ) → RowsAre [] at ≡ RowsAre row next → ReadRow 0 at bytes row next
-none-read at bytes row next is =
-    let none : row ≡ [] = sym (rows-same _ _ _ _ is) in
-    let there : at ≡ next = places-same _ _ _ _ is in
-    let passed : 0 ≡ next - at = omega arith in
-    record {
-      packets = [];
-      allowed = tt;
-      gives = none;
-      sized = ap length none;
-      front = record { place = omega arith; is = ap (λ k. drop k bytes) passed };
-    }
+none-read at bytes row next is = grind (arith, places-same, rows-same)
 
 -- a packet, and the rest of the row
 more-read : (left at : ℕ) (bytes first : List ℕ) (next : ℕ) (rows : List ℕ) (last : ℕ) → ReadPacket (suc left) at bytes first next
@@ -255,14 +226,7 @@ rows-more m width at bytes row next rows last first rest = record {
 pub rows-parsed : (m width at : ℕ) (bytes rows : List ℕ) (next : ℕ) → AreBytes bytes → rows_at m width at bytes ≡ RowsAre rows next
     → ReadRows m width at bytes rows next
 unfolding rows_at
-rows-parsed zero width at bytes rows next are is =
-    let none : ReadRow 0 at bytes rows next = none-read at bytes rows next is in
-    let passed : 0 ≡ next - at = omega (arith, places-same _ _ _ _ is) in
-    record {
-      code = [];
-      codes = (refl, sym (rows-same _ _ _ _ is));
-      front = record { place = omega (arith, places-same _ _ _ _ is); is = ap (λ k. drop k bytes) passed };
-    }
+rows-parsed zero width at bytes rows next are is = grind (arith, none-read, places-same, rows-same)
 rows-parsed (suc m) width at bytes rows next are is =
     by_row (λ at bytes rows next are is. rows-parsed m width at bytes rows next are is) (row_at width width at bytes) refl is
   where

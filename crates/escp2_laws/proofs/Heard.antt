@@ -2,7 +2,6 @@
 use Rattle.std.proofs.Common.{◌≡◌, ℕ, ◌==◌, Bool, true, false, if◌then◌else◌, List, [], ◌∷◌, ◌++◌, refl, sym, ap, subst, arith}
 use Rattle.std.proofs.lemmas.Bool.{eqb-true}
 use Rattle.std.proofs.lemmas.Bool.Decides.{nat_tests}
-use Rattle.printer_definitions.specs.declared.inks.Ink.TheVariants.{Black, Cyan, Magenta, Yellow}
 use Rattle.escp2_definitions.specs.declared.command.Command.TheVariants as c
 use Rattle.escp2_definitions.specs.declared.stops.JobCause.TheVariants.{Unknown}
 use Rattle.escp2_definitions.specs.Commands.{Heard, colour_code, command_at, escape, ink_of, is_bottom, is_colour, is_length, is_off}
@@ -16,20 +15,7 @@ use Rattle.escp2_laws.proofs.Told.{Told, told-branch, told-number, told-sized, t
 
 -- the ink of a colour code has that code
 colour-is : (n : ℕ) → is_colour n ≡ true → colour_code (ink_of n) ≡ n
-colour-is n ok = by_black (n == 0) refl
-  where
-    by_cyan : (b : Bool) → (n == 0) ≡ false → (n == 1) ≡ false → (n == 2) ≡ b → colour_code (if b then Cyan else Yellow) ≡ n
-    by_cyan true e f g = sym (eqb-true n 2 g)
-    by_cyan false e f g = grind (arith, nat_tests)
-
-    by_magenta : (b : Bool) → (n == 0) ≡ false → (n == 1) ≡ b → colour_code (if b then Magenta else (if n == 2 then Cyan else Yellow)) ≡ n
-    by_magenta true e f = sym (eqb-true n 1 f)
-    by_magenta false e f = by_cyan (n == 2) e f refl
-
-    by_black : (b : Bool) → (n == 0) ≡ b
-        → colour_code (if b then Black else (if n == 1 then Magenta else (if n == 2 then Cyan else Yellow))) ≡ n
-    by_black true e = sym (eqb-true n 0 e)
-    by_black false e = by_magenta (n == 1) e refl
+colour-is n ok = grind (arith, eqb-true, nat_tests)
 
 -- ---- what follows `ESC (`
 

@@ -3,9 +3,9 @@ use Rattle.std.proofs.Common.{◌≡◌, ℕ, zero, suc, ◌+◌, ◌≤◌, Lis
 use Rattle.std.proofs.lemmas.List.{drop_at}
 use Rattle.escp2_definitions.specs.declared.command.Command.{Command}
 use Rattle.escp2_definitions.specs.declared.command.Command.TheVariants as c
-use Rattle.escp2_definitions.specs.Commands.{Entry, Heard, Spells, command_at, command_bytes, commands, commands_from, with_entry}
-use Rattle.escp2_definitions.specs.Commands.Heard.{One, Part, Wrong}
-use Rattle.escp2_definitions.specs.Commands.ListEnd.{Whole, Cut, Fault}
+use Rattle.escp2_definitions.specs.Commands.{Entry, Spells, command_at, command_bytes, commands, commands_from, with_entry}
+use Rattle.escp2_definitions.specs.Commands.Heard.{One}
+use Rattle.escp2_definitions.specs.Commands.ListEnd.{Whole}
 use Rattle.escp2_laws.specs.Said.{AllSaid, Said, entries_of, said_bytes}
 use Rattle.escp2_laws.proofs.Reading.{command_at-spelled}
 
@@ -36,13 +36,7 @@ pub step : (most at : ℕ) (bytes : List ℕ) (command : Command) (rows : List �
     (commands_from most (at + len) (drop len bytes))
 unfolding commands_from command_at
 step most at [] command rows len e = cc
-step most at (b ∷ bytes) command rows len e =
-    ap (λ (h : Heard). elim h [
-      | One command rows len ↦ with_entry (record { at = at; command = command; rows = rows })
-          (commands_from most (at + len) (drop len (b ∷ bytes)))
-      | Part ↦ record { entries = []; end = Cut at }
-      | Wrong place cause ↦ record { entries = []; end = Fault (at + place) cause }
-    ]) e
+step most at (b ∷ bytes) command rows len e = cc
 
 -- spelled commands are read one after another
 pub commands_from-said : (job : List Said) (most at : ℕ) → AllSaid job → length (said_bytes job) ≤ most

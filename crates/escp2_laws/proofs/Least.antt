@@ -105,9 +105,7 @@ packets_from-row (suc most) (b ∷ row) enough =
 
 pub least-codes : (row : List ℕ) → RowCode (least_row row) row
 unfolding least_row
-least-codes row =
-    let is : IsRow row (packets_from (length row) row) = packets_from-row (length row) row (omega arith) in
-    record { packets = packets_from (length row) row; allowed = is.allowed; coded = refl; gives = is.gives }
+least-codes row = grind (arith, packets_from-row)
 
 pub least-costs : (row : List ℕ) → length (least_row row) ≡ get_or (costs row) 0 0
 unfolding least_row

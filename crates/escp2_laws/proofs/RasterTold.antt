@@ -1,13 +1,13 @@
 -- What is read of a raster is decided by its first bytes, whatever follows, and what is whole is spelled.
-use Rattle.std.proofs.Common.{◌≡◌, ℕ, zero, suc, ◌+◌, ◌-◌, ◌*◌, ◌==◌, ◌&&◌, nat_lt, Bool, true, false, if◌then◌else◌, List, [], ◌∷◌, ◌++◌}
-use Rattle.std.proofs.Common.{length, take, drop, refl, sym, ◌∙◌, ap, subst, arith, append-nil, length-append}
+use Rattle.std.proofs.Common.{◌≡◌, ℕ, zero, suc, ◌+◌, ◌-◌, ◌*◌, ◌==◌, ◌&&◌, Bool, true, false, if◌then◌else◌, List, [], ◌∷◌, ◌++◌}
+use Rattle.std.proofs.Common.{length, drop, refl, sym, ◌∙◌, ap, subst, arith, append-nil, length-append}
 use Rattle.std.specs.Prelude.{MatchBool}
 use Rattle.std.proofs.lemmas.List.{drop_at, take_at}
 use Rattle.escp2_definitions.specs.declared.command.RasterHead.{RasterHead}
 use Rattle.escp2_definitions.specs.declared.command.Command.TheVariants as c
 use Rattle.escp2_definitions.specs.RowCode.{RowsCode, RowsRead, plain_at, rows_at}
 use Rattle.escp2_definitions.specs.RowCode.RowsRead.{RowsAre, RowsPart, RowsWrong}
-use Rattle.escp2_definitions.specs.Commands.{Heard, IsRowsText, command_bytes, in_table, is_some, is_switch, is_width, number, raster_at}
+use Rattle.escp2_definitions.specs.Commands.{IsRowsText, command_bytes, in_table, is_some, is_switch, is_width, number, raster_at}
 use Rattle.escp2_definitions.specs.Commands.{raster_rows, row_bytes, wide_number, with_rows}
 use Rattle.escp2_laws.proofs.Grammar.{AreBytes, ReadRows, rows-parsed}
 use Rattle.escp2_laws.proofs.Rows.{places-same, rows-same}
@@ -24,25 +24,12 @@ record AreRows (header : RasterHead) (rows text : List ℕ) : Type 0 where
 -- plain rows are their bytes
 plain-are : (header : RasterHead) (rows text : List ℕ) (next : ℕ) → (header.c == 0) ≡ true → next ≡ 8 + length text
     → plain_at (header.m * row_bytes header) 8 (text ++ []) ≡ RowsAre rows next → AreRows header rows text
-plain-are header rows text next is_plain there = by_test (nat_lt (length (text ++ [])) n)
-  where
-    n : ℕ
-    n = header.m * row_bytes header
-
-    by_test : (b : Bool) → (if b then RowsPart else RowsAre (take n (text ++ [])) (8 + n)) ≡ RowsAre rows next → AreRows header rows text
-    by_test true e = absurd (let no : RowsPart ≡ RowsAre rows next = e in cc)
-    by_test false e =
-        let len : length text ≡ n = omega (arith, there, places-same _ _ _ _ e) in
-        let same : text ≡ rows = sym (take_at text [] n len) ∙ rows-same _ _ _ _ e in
-        let P : Bool → Type 0 = λ b. MatchBool b (text ≡ rows) (RowsCode header.m (row_bytes header) text rows) in
-        record { fits = sym (ap length same) ∙ len; are = subst P (sym is_plain) same }
+plain-are header rows text next is_plain there = grind (arith, places-same, rows-same, take_at)
 
 -- coded rows have their width
 codes-len : (m width : ℕ) (code rows : List ℕ) → RowsCode m width code rows → length rows ≡ m * width
 codes-len zero width code rows codes = ap length codes.1 ∙ omega arith
-codes-len (suc m) width code rows codes =
-    let each : suc m * width ≡ width + m * width = omega arith in
-    omega (arith, ap length codes.5, length-append codes.1 codes.3, codes.6, codes-len m width codes.2 codes.3 codes.8)
+codes-len (suc m) width code rows codes = grind (arith, length-append, codes-len m width codes.2 codes.3 codes.8)
 
 -- coded rows are what their code gives
 coded-are : (header : RasterHead) (rows text : List ℕ) (next : ℕ) → (header.c == 0) ≡ false → next ≡ 8 + length text → AreBytes text
@@ -75,40 +62,12 @@ raster-told header read bytes ok is rows_are (RowsAre rows next) t = record {
       record { in_range = ok; rows_fit = rows_is.fits; text = t.front; rows_are = rows_is.are; spelled = refl };
 }
 raster-told header read bytes ok is rows_are RowsPart t = tt
-raster-told header read bytes ok is rows_are (RowsWrong place) t = record {
-  front = t.front;
-  rest = t.rest;
-  is = t.is;
-  least = omega (arith, t.there);
-  most = omega (arith, t.there);
-  told = λ more. is (t.front ++ more) ∙ ap (with_rows header) (t.told more);
-}
+raster-told header read bytes ok is rows_are (RowsWrong place) t = grind arith
 
 -- the rows after the numbers of a raster
 rows-of-raster : (header : RasterHead) (bytes : List ℕ) → in_table (c.Raster header) ≡ true
     → Told (raster_rows header) (command_bytes (c.Raster header)) bytes (raster_rows header bytes)
-rows-of-raster header bytes ok = by_form (header.c == 0) refl
-  where
-    n : ℕ
-    n = header.m * row_bytes header
-
-    by_form : (b : Bool) → (header.c == 0) ≡ b
-        → Told (raster_rows header) (command_bytes (c.Raster header)) bytes (raster_rows header bytes)
-    by_form true e =
-        let is : (more : List ℕ) → raster_rows header more ≡ with_rows header (plain_at n 8 more) =
-        λ more. ap (λ b. with_rows header (if b then plain_at n 8 more else rows_at header.m (row_bytes header) 8 more)) e in
-        let P : Heard → Type 0 = Told (raster_rows header) (command_bytes (c.Raster header)) bytes in
-        subst P (sym (is bytes))
-        (raster-told header (plain_at n 8) bytes ok is (λ rows text next there are. plain-are header rows text next e there)
-        (plain_at n 8 bytes) (plain-told n 8 bytes))
-    by_form false e =
-        let is : (more : List ℕ) → raster_rows header more ≡ with_rows header (rows_at header.m (row_bytes header) 8 more) =
-        λ more. ap (λ b. with_rows header (if b then plain_at n 8 more else rows_at header.m (row_bytes header) 8 more)) e in
-        let P : Heard → Type 0 = Told (raster_rows header) (command_bytes (c.Raster header)) bytes in
-        subst P (sym (is bytes))
-        (raster-told header (rows_at header.m (row_bytes header) 8) bytes ok is
-        (λ rows text next there are. coded-are header rows text next e there are)
-        (rows_at header.m (row_bytes header) 8 bytes) (rows-told header.m (row_bytes header) 8 bytes))
+rows-of-raster header bytes ok = grind (arith, Told, coded-are, plain-are, plain-told, raster-told, rows-told)
 
 -- ---- the numbers of a raster
 

@@ -1,15 +1,15 @@
 -- The rows of a raster that are written are read.
-use Rattle.std.proofs.Common.{◌≡◌, ℕ, zero, suc, ◌+◌, ◌-◌, ◌<◌, ◌≤◌, false, nat_lt, ◌==◌, if◌then◌else◌, List, [], ◌∷◌, ◌++◌, length, take}
-use Rattle.std.proofs.Common.{drop, replicate, sym, ◌∙◌, ap, arith, length-append, append_assoc, flat_map}
+use Rattle.std.proofs.Common.{◌≡◌, ℕ, zero, suc, ◌+◌, ◌-◌, ◌<◌, ◌≤◌, ◌==◌, if◌then◌else◌, List, [], ◌∷◌, ◌++◌, length}
+use Rattle.std.proofs.Common.{replicate, sym, ◌∙◌, ap, arith, length-append, append_assoc, flat_map}
 use Rattle.std.specs.List.{AllByRecursion}
 use Rattle.std.proofs.lemmas.Bool.{le-ltb, lt-ltb}
 use Rattle.std.proofs.lemmas.Bool.Decides.{nat_tests}
 use Rattle.std.proofs.lemmas.List.{take_at, drop_at, length-replicate}
-use Rattle.escp2_definitions.specs.RowCode.{Control, IsRowPacket, RowCode, RowPacket, RowsCode, RowsRead, again_at, control_of, controlled}
+use Rattle.escp2_definitions.specs.RowCode.{IsRowPacket, RowCode, RowPacket, RowsCode, control_of}
 use Rattle.escp2_definitions.specs.RowCode.{packet_at, packet_code, packet_row, plain_at, row_at, rows_at, with_front}
 use Rattle.escp2_definitions.specs.RowCode.Control.{Follow, Again, Refused}
 use Rattle.escp2_definitions.specs.RowCode.RowPacket.{Bytes, Repeat}
-use Rattle.escp2_definitions.specs.RowCode.RowsRead.{RowsAre, RowsPart, RowsWrong}
+use Rattle.escp2_definitions.specs.RowCode.RowsRead.{RowsAre}
 
 -- equal answers have equal rows
 pub rows-same : (rs ss : List ℕ) (j k : ℕ) → RowsAre rs j ≡ RowsAre ss k → rs ≡ ss
@@ -23,10 +23,7 @@ places-same rs ss j k e = cc
 
 -- n bytes are read as they are
 pub plain-reads : (bytes rest : List ℕ) (n at : ℕ) → length bytes ≡ n → plain_at n at (bytes ++ rest) ≡ RowsAre bytes (at + n)
-plain-reads bytes rest n at e =
-    let enough : nat_lt (length (bytes ++ rest)) n ≡ false = le-ltb _ _ (omega (arith, length-append bytes rest)) in
-    ap (λ b. if b then RowsPart else RowsAre (take n (bytes ++ rest)) (at + n)) enough
-    ∙ ap (λ bs. RowsAre bs (at + n)) (take_at bytes rest n e)
+plain-reads bytes rest n at e = grind (arith, le-ltb, length-append, take_at)
 
 -- ---- one packet
 
@@ -36,31 +33,13 @@ follow-control n few = ap (λ b. if b then Follow (n + 1) else (if n == 128 then
 
 -- a control byte above 128
 again-control : (n : ℕ) → 2 ≤ n → n ≤ 128 → control_of (257 - n) ≡ Again n
-again-control n some few =
-    let high : nat_lt (257 - n) 128 ≡ false = le-ltb _ _ (omega arith) in
-    let apart : ((257 - n) == 128) ≡ false = grind (arith, nat_tests) in
-    let back : 257 - (257 - n) ≡ n = omega arith in
-    ap (λ b. if b then Follow (257 - n + 1) else (if (257 - n) == 128 then Refused else Again (257 - (257 - n)))) high
-    ∙ ap (λ b. if b then Refused else Again (257 - (257 - n))) apart
-    ∙ ap Again back
+again-control n some few = grind (arith, le-ltb, nat_tests)
 
 -- a packet is read from its code
 packet-reads : (p : RowPacket) (left at : ℕ) (more : List ℕ) → IsRowPacket p → length (packet_row p) ≤ left
     → packet_at left at (packet_code p ++ more) ≡ RowsAre (packet_row p) (at + length (packet_code p))
-packet-reads (Bytes bytes) left at more allowed fits =
-    let n : ℕ = length bytes - 1 in
-    let is : n + 1 ≡ length bytes = omega (arith, allowed.0) in
-    let within : nat_lt left (n + 1) ≡ false = le-ltb _ _ (omega (arith, is)) in
-    ap (λ (c : Control). controlled c left at (bytes ++ more)) (follow-control n (omega (arith, allowed.0, allowed.1)))
-    ∙ ap (λ b. if b then RowsWrong at else plain_at (n + 1) (at + 1) (bytes ++ more)) within
-    ∙ plain-reads bytes more (n + 1) (at + 1) (sym is)
-    ∙ ap (RowsAre bytes) (omega (arith, is))
-packet-reads (Repeat n byte) left at more allowed fits =
-    let len : length (replicate n byte) ≡ n = length-replicate {A = ℕ} n byte in
-    let within : nat_lt left n ≡ false = le-ltb _ _ (omega (arith, len, fits)) in
-    ap (λ (c : Control). controlled c left at (byte ∷ more)) (again-control n allowed.0 allowed.1)
-    ∙ ap (λ b. if b then RowsWrong at else again_at n (at + 1) (byte ∷ more)) within
-    ∙ ap (RowsAre (replicate n byte)) (omega arith)
+packet-reads (Bytes bytes) left at more allowed fits = grind (arith, follow-control, le-ltb, plain-reads)
+packet-reads (Repeat n byte) left at more allowed fits = grind (arith, again-control, le-ltb, length-replicate)
 
 -- a packet gives a byte at least
 packet-some : (p : RowPacket) → IsRowPacket p → 1 ≤ length (packet_row p)
@@ -74,14 +53,7 @@ packet-some (Repeat n byte) allowed =
 row-step : (most left at : ℕ) (code more row : List ℕ) → packet_at (suc left) at (code ++ more) ≡ RowsAre row (at + length code)
     → row_at (suc most) (suc left) at (code ++ more) ≡ with_front row (row_at most (suc left - length row) (at + length code) more)
 unfolding row_at
-row-step most left at code more row e =
-    let passed : drop (at + length code - at) (code ++ more) ≡ more = drop_at code more (at + length code - at) (omega arith) in
-    ap (λ (r : RowsRead). elim r [
-      | RowsAre front next ↦ with_front front (row_at most (suc left - length front) next (drop (next - at) (code ++ more)))
-      | RowsPart ↦ RowsPart
-      | RowsWrong place ↦ RowsWrong place
-    ]) e
-    ∙ ap (λ bs. with_front row (row_at most (suc left - length row) (at + length code) bs)) passed
+row-step most left at code more row e = grind (arith, drop_at)
 
 -- a row is read from its packets
 row-reads : (packets : List RowPacket) (most left at : ℕ) (rest : List ℕ) → AllByRecursion IsRowPacket packets
@@ -114,22 +86,13 @@ row-reads (p ∷ packets) (suc most) (suc left) at rest allowed e fits =
 rows-step : (m width at : ℕ) (code more row : List ℕ) → row_at width width at (code ++ more) ≡ RowsAre row (at + length code)
     → rows_at (suc m) width at (code ++ more) ≡ with_front row (rows_at m width (at + length code) more)
 unfolding rows_at
-rows-step m width at code more row e =
-    let passed : drop (at + length code - at) (code ++ more) ≡ more = drop_at code more (at + length code - at) (omega arith) in
-    ap (λ (r : RowsRead). elim r [
-      | RowsAre row next ↦ with_front row (rows_at m width next (drop (next - at) (code ++ more)))
-      | RowsPart ↦ RowsPart
-      | RowsWrong place ↦ RowsWrong place
-    ]) e
-    ∙ ap (λ bs. with_front row (rows_at m width (at + length code) bs)) passed
+rows-step m width at code more row e = grind (arith, drop_at)
 
 -- rows are read from their code
 pub rows-read : (m width at : ℕ) (code rows rest : List ℕ) → RowsCode m width code rows
     → rows_at m width at (code ++ rest) ≡ RowsAre rows (at + length code)
 unfolding rows_at
-rows-read zero width at code rows rest is =
-    let none : length code ≡ 0 = ap length is.0 in
-    ap (λ rs. RowsAre rs at) (sym is.1) ∙ ap (RowsAre rows) (omega (arith, none))
+rows-read zero width at code rows rest is = grind arith
 rows-read (suc m) width at code rows rest is =
     let front : List ℕ = is.0 in
     let row : List ℕ = is.1 in

@@ -187,11 +187,7 @@ rows-next : (m width at : ℕ) (bytes : List ℕ) (r : RowsRead) → row_at widt
   | RowsWrong place ↦ RowsWrong place
 ])
 unfolding rows_at
-rows-next m width at bytes r e = ap (λ (r : RowsRead). elim r [
-  | RowsAre row next ↦ with_front row (rows_at m width next (drop (next - at) bytes))
-  | RowsPart ↦ RowsPart
-  | RowsWrong place ↦ RowsWrong place
-]) e
+rows-next m width at bytes r e = cc
 
 -- rows, one after another
 pub rows-told : (m width at : ℕ) (bytes : List ℕ) → RowsTold (rows_at m width at) at bytes (rows_at m width at bytes)

@@ -108,13 +108,7 @@ fault-stands bytes at cause e =
 
 -- a prefix of a part is a part
 pub part-of_part : (bytes rest : List ℕ) → command_at (bytes ++ rest) ≡ Part → command_at bytes ≡ Part
-part-of_part bytes rest e = by_heard (command_at bytes) refl
-  where
-    by_heard : (h : Heard) → command_at bytes ≡ h → command_at bytes ≡ Part
-    by_heard Part is = is
-    by_heard (One command rows len) is =
-        absurd (let no : One command rows len ≡ Part = sym (one-stands_behind bytes rest command rows len is) ∙ e in cc)
-    by_heard (Wrong at cause) is = absurd (let no : Wrong at cause ≡ Part = sym (wrong-stands_behind bytes rest at cause is) ∙ e in cc)
+part-of_part bytes rest e = grind (arith, one-stands_behind, wrong-stands_behind)
 
 -- ---- jobs
 
@@ -141,17 +135,7 @@ after (Wrong place cause) most at bytes = record { entries = []; end = Fault (at
 pub first-of : (most at b : ℕ) (bytes : List ℕ)
     → commands_from (suc most) at (b ∷ bytes) ≡ after (command_at (b ∷ bytes)) most at (b ∷ bytes)
 unfolding commands_from
-first-of most at b bytes = by_heard (command_at (b ∷ bytes))
-  where
-    by_heard : (h : Heard) → (elim h [
-      | One command rows len ↦ with_entry (record { at = at; command = command; rows = rows })
-          (commands_from most (at + len) (drop len (b ∷ bytes)))
-      | Part ↦ record { entries = []; end = Cut at }
-      | Wrong place cause ↦ record { entries = []; end = Fault (at + place) cause }
-    ]) ≡ after h most at (b ∷ bytes)
-    by_heard (One command rows len) = refl
-    by_heard Part = refl
-    by_heard (Wrong place cause) = refl
+first-of most at b bytes = grind (arith, after)
 
 -- a fault ends the commands from a place on
 fault-from : (most more at : ℕ) (bytes rest : List ℕ) (place : ℕ) (cause : JobCause) → length bytes ≤ most → length (bytes ++ rest) ≤ more

@@ -81,14 +81,7 @@ told-branch read next before b n rest same step t =
 pub told-whole : (command : Command) (len : ℕ) (before bytes : List ℕ) → len ≡ length before → in_table command ≡ true
     → 0 ≡ rows_len command → IsRowsText command [] [] → before ++ [] ≡ command_bytes command ++ []
     → Told (whole command len) before bytes (One command [] len)
-told-whole command len before bytes there ok none no_text spelled = record {
-  front = [];
-  rest = bytes;
-  is = refl;
-  there = omega (arith, there);
-  told = λ more. refl;
-  spells = λ are. record { in_range = ok; rows_fit = none; text = []; rows_are = no_text; spelled = spelled };
-}
+told-whole command len before bytes there ok none no_text spelled = grind arith
 
 -- ---- numbers
 
@@ -126,10 +119,7 @@ told-number in_range at next before (n ∷ rest) there after = by_test (in_range
 
 -- two bytes are those of their number
 two-same : (low high : ℕ) → low < 256 → low ∷ high ∷ [] ≡ two_bytes (low + 256 * high)
-two-same low high byte =
-    let low_is : low ≡ (low + 256 * high) % 256 = omega arith in
-    let high_is : high ≡ (low + 256 * high) / 256 = omega arith in
-    ap (λ n. n ∷ high ∷ []) low_is ∙ ap (λ n. (low + 256 * high) % 256 ∷ n ∷ []) high_is
+two-same low high byte = grind arith
 
 -- a number of two bytes
 pub told-wide : (in_range : ℕ → Bool) (at : ℕ) (next : ℕ → List ℕ → Heard) (before bytes : List ℕ) → at ≡ length before

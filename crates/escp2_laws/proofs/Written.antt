@@ -8,9 +8,9 @@ use Rattle.std.proofs.lemmas.List.{length-take-le, take-append-drop}
 use Rattle.escp2_definitions.specs.declared.command.RasterHead.{RasterHead}
 use Rattle.escp2_definitions.specs.declared.command.Command.{Command}
 use Rattle.escp2_definitions.specs.declared.command.Command.TheVariants as c
-use Rattle.escp2_definitions.specs.Commands.{Spells, in_table, is_switch, row_bytes, rows_len}
+use Rattle.escp2_definitions.specs.Commands.{Spells, in_table, is_switch, rows_len}
 use Rattle.escp2_definitions.specs.RowCode.{RowCode, RowsCode}
-use Rattle.escp2_definitions.specs.Written.{Coding, IsCoding, rows_apart, written, written_rows}
+use Rattle.escp2_definitions.specs.Written.{Coding, IsCoding, rows_apart, written}
 use Rattle.escp2_definitions.specs.Least.{least_row}
 use Rattle.escp2_laws.specs.Coded.{HasCoding}
 use Rattle.escp2_laws.proofs.Least.{least-codes}
@@ -58,13 +58,7 @@ plain_or_coded coding header (inr coded) is = inr coded.1
 -- what is written of a command of the table spells it
 pub written-spells : (coding : Coding) (command : Command) (rows : List ℕ) → IsCoding coding → HasCoding coding command
     → in_table command ≡ true → length rows ≡ rows_len command → Spells command rows (written coding.code command rows)
-written-spells coding (c.Raster header) rows codes has ok fits = record {
-  in_range = ok;
-  rows_fit = fits;
-  text = written_rows coding.code (c.Raster header) rows;
-  rows_are = rows_text (header.c == 0) coding.code header.m (row_bytes header) rows fits (plain_or_coded coding header codes has);
-  spelled = refl;
-}
+written-spells coding (c.Raster header) rows codes has ok fits = grind (arith, plain_or_coded, rows_text)
 written-spells coding other rows codes has ok fits = record { in_range = ok; rows_fit = fits; text = rows; rows_are = refl; spelled = refl }
 
 -- the least code, where the rows are coded

@@ -1,5 +1,5 @@
 -- A block of errors that is put into a field, or taken from one, place by place.
-use Rattle.std.proofs.Common.{ℕ, ℤ, pos, ◌≡◌, ◌≢◌, ◌+◌, ◌<◌, ◌≤◌, ◌∙◌, ap, refl, sym, subst, arith, inl, inr, List, get_or, set, length}
+use Rattle.std.proofs.Common.{ℕ, ℤ, pos, ◌≡◌, ◌≢◌, ◌+◌, ◌<◌, ◌≤◌, ◌∙◌, ap, sym, arith, inl, inr, List, get_or, set, length}
 use Rattle.std.proofs.Common.{length-set, get_or-set_same, get_or-set_other, to_z, of_z, w16}
 use Rattle.std.proofs.lemmas.Bool.{cases_eq, cases_lt}
 use Rattle.std.proofs.lemmas.List.{get_or_past}
@@ -18,12 +18,7 @@ pub record IsPut (at from : ℕ → ℕ) (first n : ℕ) (errors : List ℤ) (ol
 
 pub none_put : (at from : ℕ → ℕ) (first : ℕ) (errors : List ℤ) (xs : List ℕ) → length xs ≡ 3502 → HeldInRange xs
     → IsPut at from first first errors xs xs
-none_put at from first errors xs long fits = record {
-  long = long;
-  in_range = fits;
-  there = λ i h g. let no : ⊥ = omega arith in absurd no;
-  kept = λ m h. refl;
-}
+none_put at from first errors xs long fits = grind arith
 
 pub put_more : (at from : ℕ → ℕ) (first n v : ℕ) (errors : List ℤ) (old xs : List ℕ) → at n < 3502 → first ≤ n
     → ((i : ℕ) → first ≤ i → i < n → at i ≢ at n)
@@ -57,27 +52,11 @@ none_taken at len xs out long = record { long = long; there = λ i h. let no : �
 pub take_more : (at : ℕ → ℕ) (n m len : ℕ) (v : ℤ) (xs : List ℕ) (out : List ℤ) → m ≡ n + 1 → n < len → InRange v
     → v ≡ error_held (get_or xs (at n) 0)
     → IsTaken at n len xs out → IsTaken at m len xs (set out n (to_z w16 (of_z w16 v)))
-take_more at n m len v xs out next room fits is f =
-    let same : to_z w16 (of_z w16 v) ≡ v = omega (arith, ints) in
-    let inside : n < length out = omega (arith, f.long) in
-    record {
-      long = length-set out n _ ∙ f.long;
-      there = λ i below. elim (cases_eq i n) [
-        | inl last ↦ ap (λ m. get_or (set out n (to_z w16 (of_z w16 v))) m (pos 0)) last ∙ get_or-set_same out n _ (pos 0) inside ∙ same
-            ∙ is ∙ ap (λ m. error_held (get_or xs (at m) 0)) (sym last)
-        | inr not ↦ get_or-set_other out n i _ (pos 0) not ∙ f.there i (omega arith)
-      ];
-    }
+take_more at n m len v xs out next room fits is f = grind (arith, cases_eq, get_or-set_other, get_or-set_same, ints, length-set)
 
 held_in : (n : ℕ) → n ≤ 4079 → InRange (error_held n)
 held_in n h = record { low = omega (arith, ints); high = omega (arith, ints) }
 
 pub taken_in_range : (at : ℕ → ℕ) (n len : ℕ) (xs : List ℕ) (out : List ℤ) → HeldInRange xs → len ≤ n → IsTaken at n len xs out
     → EachInRange out
-taken_in_range at n len xs out fits short f i =
-    let P : ℤ → Type 0 = λ w. InRange w in
-    elim (cases_lt i (length out)) [
-      | inl inside ↦ let below : i < n = omega (arith, f.long) in subst P (sym (f.there i below))
-          (held_in (get_or xs (at i) 0) (fits (at i)))
-      | inr past ↦ subst P (sym (get_or_past out i (pos 0) past)) none_in
-    ]
+taken_in_range at n len xs out fits short f i = grind (arith, cases_lt, get_or_past, held_in, none_in)

@@ -30,10 +30,7 @@ bit_is false = refl
 stucki_part : (s8 s4 s2 s1 q w left : ℕ) → q ≡ 2 * s8 + s4 + (2 * s2 + s1) / 4 → w ≡ q / 21
     → left ≡ 2 * (q - 21 * w) + (2 * s2 + s1) / 2 % 2
     → 2 * w + bool_byte (leb 21 left) ≡ (8 * s8 + 4 * s4 + 2 * s2 + s1) / 42
-stucki_part s8 s4 s2 s1 q w left is_q is_w is_left =
-    ap (λ n. 2 * w + n) (bit_is (leb 21 left)) ∙ cond_both (leb 21 left) 1 0 (λ n. 2 * w + n ≡ (8 * s8 + 4 * s4 + 2 * s2 + s1) / 42)
-    (λ e. let more = leb-true 21 left e in omega arith)
-    (λ e. let few = leb-false 21 left e in omega arith)
+stucki_part s8 s4 s2 s1 q w left is_q is_w is_left = grind (arith, bit_is, cond_both, leb-false, leb-true)
 
 pub jarvis_is : (a v o1 o2 b0 b1 b2 b3 b4 d0 d1 d2 d3 d4 : ℕ) → v ≡ a → o1 + b2 + (b0 + b4 + d1 + d3) ≤ 24474
     → error_held (16 * v + (2 * (o1 + b2) + (o2 + b1 + b3 + d2) + (b0 + b4 + d1 + d3) + (o2 + b1 + b3 + d2 + (d0 + d4) + (24476 - (o1 + b2 + (b0 + b4 + d1 + d3)))) / 4 - 6119) / 12)

@@ -1,5 +1,5 @@
 -- Amounts by steps.
-use Rattle.std.proofs.Common.{ℕ, ◌+◌, ◌-◌, ◌*◌, ◌∙◌, arith, List, refl}
+use Rattle.std.proofs.Common.{ℕ, ◌+◌, ◌-◌, ◌*◌, ◌∙◌, arith, List}
 use Rattle.dot_planes.specs.Gathered.{HasPixels}
 use Rattle.tile_lanes.specs.Done.{plane_with}
 use Rattle.tile_lanes.specs.Lanes.{HasAmounts, HasSteps}
@@ -11,11 +11,4 @@ use Rattle.tile_shape.specs.declared.tiles.Shape.{Shape}
 -- The steps of a tile that has amounts have them.
 pub steps_have : (pace : Pace) (s : Shape) (amount : ℕ → ℕ → ℕ) (place : Place) (tile amounts : List ℕ)
     → HasPixels s amount place tile → HasSteps pace tile amounts → HasAmounts pace (plane_with s amount) place.c place.j 32 amounts
-steps_have pace s amount place tile amounts has steps = record {
-  at = λ r o row small there.
-      let u : ℕ = 64 * place.c + o in
-      let inside = place_inside (plane_with s amount) place.j r u there in
-      steps.at r o row small
-      ∙ has.pixel r o (u - 2 * r) (32 * place.j + r) row (record { across = inside.across; down = inside.down })
-      (record { in_band = row; in_tile = small; down = refl; across = omega (arith, inside.from) });
-}
+steps_have pace s amount place tile amounts has steps = grind (arith, place_inside)

@@ -21,11 +21,7 @@ use Rattle.tile_lanes.proofs.RowCells.{five_are, none_right, place_inside, two}
 cell_right : (pace : Pace) (e : Errors) (c j t : ℕ) (xs : List ℕ) → IsFilled pace e c j t xs → (p l n y x : ℕ)
     → p < 34 → l < 70 → l + first_group pace p < t → n ≡ cell_of pace p l → y ≡ 32 * j + p → x + 2 * p ≡ 64 * c + l + 2
     → error_held (get_or xs n 0) ≡ e y x
-cell_right pace e c j t xs f p l n y x band small visited is_n is_y is_x =
-    ap (λ m. error_held (get_or xs m 0)) is_n
-    ∙ f.before p l band small visited
-    ∙ ap (λ m. e m (64 * c + l + 2 - 2 * p)) (sym is_y)
-    ∙ ap (e y) (omega arith)
+cell_right pace e c j t xs f p l n y x band small visited is_n is_y is_x = grind arith
 
 -- The errors near a pixel of a step, as they stand in a field.
 same_right : (pace : Pace) (e : Errors) (c j t r o y x : ℕ) (xs : List ℕ) → IsFilled pace e c j t xs → r < 32 → o < 64
@@ -142,24 +138,13 @@ error_right : (kernel : Kernel) (p : Plane) (e : Errors) (c j t r o : ℕ) (amou
     → IsFilled (pace_of kernel) e c j t xs
     → r < 32 → o < 64 → o + delay_of (pace_of kernel) r + 8 ≡ t → is_place p j r (64 * c + o) ≡ true
     → error_of (value_in_row kernel amounts t xs r) ≡ skewed e j (r + 2) (64 * c + (6 + o))
-error_right kernel p e c j t r o amounts xs s h f row small is_t place =
-    let y : ℕ = 32 * j + r in
-    let x : ℕ = 64 * c + o - 2 * r in
-    let inside = place_inside p j r (64 * c + o) place in
-    let from : 2 * r ≤ 64 * c + o = inside.from in
-    let at_row : y + 2 ≡ 32 * j + (r + 2) = omega arith in
-    let at_place : x + 4 ≡ 64 * c + (6 + o) + 2 - 2 * (r + 2) = omega arith in
-    ap error_of (value_right kernel p e c j t r o amounts xs h f row small is_t place)
-    ∙ sym (s.pixel y x inside.down inside.across)
-    ∙ ap (λ m. e m (x + 4)) at_row ∙ ap (e (32 * j + (r + 2))) at_place
+error_right kernel p e c j t r o amounts xs s h f row small is_t place = grind (arith, place_inside, value_right)
 
 dot_right : (kernel : Kernel) (p : Plane) (e : Errors) (c j t r o : ℕ) (amounts xs : List ℕ)
     → HasAmounts (pace_of kernel) p c j 32 amounts → IsFilled (pace_of kernel) e c j t xs
     → r < 32 → o < 64 → o + delay_of (pace_of kernel) r + 8 ≡ t → is_place p j r (64 * c + o) ≡ true
     → is_dot (value_in_row kernel amounts t xs r) ≡ shown (table_of kernel) p e j r (64 * c + o)
-dot_right kernel p e c j t r o amounts xs h f row small is_t place =
-    ap is_dot (value_right kernel p e c j t r o amounts xs h f row small is_t place)
-    ∙ ap (λ b. b && is_dot (value_at (table_of kernel) p e (32 * j + r) (64 * c + o - 2 * r))) (sym place)
+dot_right kernel p e c j t r o amounts xs h f row small is_t place = grind (arith, value_right)
 
 -- ---- a step
 
@@ -167,33 +152,7 @@ dot_right kernel p e c j t r o amounts xs h f row small is_t place =
 pub step_kept : (kernel : Kernel) (p : Plane) (e : Errors) (c j t : ℕ) (amounts f0 d0 f1 d1 f2 d2 : List ℕ)
     → IsFilled (pace_of kernel) e c j t f0 → IsStep kernel amounts t 0 32 f0 d0 f1 d1
     → IsCleared (pace_of kernel) p c j t f1 d1 f2 d2 → IsFilled (pace_of kernel) e c j t f2
-step_kept kernel p e c j t amounts f0 d0 f1 d1 f2 d2 f s g = record {
-  before = λ q l band small visited.
-      let m : ℕ = cell_of (pace_of kernel) q l in
-      let low : m < 34 * t + 2 = omega arith in
-      ap error_held (g.before m low ∙ s.before m (omega arith)) ∙ f.before q l band small visited;
-  above = λ q l up small.
-      let m : ℕ = cell_of (pace_of kernel) q l in
-      ap error_held (elim (cases_lt m (34 * t + 2)) [
-        | inl low ↦ g.before m low ∙ s.before m (omega arith)
-        | inr high ↦ g.after m (omega arith) ∙ s.after m (omega arith)
-      ]) ∙ f.above q l up small;
-  left = λ q l band small.
-      let m : ℕ = cell_of (pace_of kernel) q l in
-      ap error_held (elim (cases_lt m (34 * t + 2)) [
-        | inl low ↦ g.before m low ∙ s.before m (omega arith)
-        | inr from ↦ elim (cases_lt m (34 * t + 34)) [
-          | inl now ↦
-              let r : ℕ = q - 2 in
-              let here : m ≡ 34 * t + 2 + r = omega arith in
-              let group = group_of (pace_of kernel) q (omega arith) in
-              let later : t < delay_of (pace_of kernel) r + 8 = omega (arith, group) in
-              ap (λ n. get_or f2 n 0) here ∙ g.left r (omega arith) later ∙ s.left r (omega arith) (omega arith) later
-              ∙ ap (λ n. get_or f0 n 0) (sym here)
-          | inr high ↦ g.after m high ∙ s.after m (omega arith)
-        ]
-      ]) ∙ f.left q l band small;
-}
+step_kept kernel p e c j t amounts f0 d0 f1 d1 f2 d2 f s g = grind (arith, cases_lt, group_of)
 
 pub step_right : (kernel : Kernel) (p : Plane) (e : Errors) (c j t : ℕ) {amounts f0 d0 f1 d1 f2 d2 : List ℕ}
     → Solves (table_of kernel) p e → HasAmounts (pace_of kernel) p c j 32 amounts
@@ -284,13 +243,7 @@ pub bits_more : (kernel : Kernel) (p : Plane) (e : Errors) (c j t : ℕ) (dots o
     → ((r o : ℕ) → r < 32 → o < 64 → 16 * (o / 16) + delay_of (pace_of kernel) r + 23 ≡ t → bit new (64 * r + o) ≡ get_or dots r 0 / 2 ^ (15 - o % 16) % 2)
     → ((r o : ℕ) → r < 32 → o < 64 → 16 * (o / 16) + delay_of (pace_of kernel) r + 23 ≢ t → bit new (64 * r + o) ≡ bit old (64 * r + o))
     → HasBits kernel p e c j (t + 1) new
-bits_more kernel p e c j t dots old new last f there kept = record {
-  at = λ r o row small done. elim (cases_lt (16 * (o / 16) + delay_of (pace_of kernel) r + 23) t) [
-    | inl before ↦ let other : 16 * (o / 16) + delay_of (pace_of kernel) r + 23 ≢ t = omega arith in kept r o row small other ∙ f.at r o row small (omega arith)
-    | inr from ↦ let now : 16 * (o / 16) + delay_of (pace_of kernel) r + 23 ≡ t = omega arith in there r o row small now
-        ∙ last.at r o (15 - o % 16) row small (omega arith) (omega arith) (omega arith)
-  ];
-}
+bits_more kernel p e c j t dots old new last f there kept = grind (arith, cases_lt)
 
 -- ---- the next group
 

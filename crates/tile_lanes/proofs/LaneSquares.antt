@@ -1,5 +1,5 @@
 -- Amounts of a tile by steps, a square at a time.
-use Rattle.std.proofs.Common.{ℕ, ◌≡◌, ◌+◌, ◌-◌, ◌*◌, ◌<◌, ◌≤◌, ◌∙◌, ap, sym, arith, inl, inr, List, [], get_or, min, refl, set}
+use Rattle.std.proofs.Common.{ℕ, ◌≡◌, ◌+◌, ◌-◌, ◌*◌, ◌<◌, ◌≤◌, ◌∙◌, ap, sym, arith, inl, inr, List, [], get_or, min, set}
 use Rattle.std.proofs.Common.{length}
 use Rattle.std.proofs.Common.{get_or-set_same, get_or-set_other}
 use Rattle.std.proofs.lemmas.Bool.{cases_eq, cases_lt}
@@ -7,7 +7,7 @@ use Rattle.std.proofs.lemmas.Simd.{get_or-chunk, get_or-put_chunk_at, get_or-put
 use lib.Lanes.{chunk, put_chunk}
 use Rattle.tile_lanes.specs.Lanes.{HasSteps}
 use Rattle.tile_lanes.specs.Paces.{delay_of, squares_of}
-use Rattle.tile_lanes.specs.Square.{HasHalf, HasRows, IsPutInto, IsSquare, covered, lane, place_at}
+use Rattle.tile_lanes.specs.Square.{HasHalf, HasRows, IsPutInto, IsSquare, lane, place_at}
 use Rattle.tile_lanes.specs.declared.lanes.pace.Pace.{Pace}
 use Rattle.tile_lanes.proofs.Paces.{delay_fits, delay_plus, delay_up}
 
@@ -85,33 +85,14 @@ half_more pace first n {step} {tile} {new} half few is_step has turned put f = r
 half_at : (pace : Pace) (tile : List ℕ) (first r o : ℕ) (old new : List ℕ) → first ≤ r → r < first + 16 → o < 64
     → HasHalf pace tile first (squares_of pace) old new
     → get_or new (32 * (o + delay_of pace r) + r) 0 ≡ get_or tile (64 * r + o) 0
-half_at pace tile first r o old new from to small f =
-    let low = delay_up pace first r from in
-    let high = delay_up pace r (first + 15) (omega arith) in
-    let apart = delay_plus pace first 15 in
-    let fits = delay_fits pace in
-    let start : delay_of pace first ≤ o + delay_of pace r = omega (arith, low) in
-    let end : o + delay_of pace r < delay_of pace first + covered (squares_of pace) = omega (arith, high, apart, fits) in
-    let there : place_at pace r (o + delay_of pace r) ≡ 64 * r + o = omega arith in
-    f.there (o + delay_of pace r) r from to start end ∙ ap (λ n. get_or tile n 0) there
+half_at pace tile first r o old new from to small f = grind (arith, delay_fits, delay_plus, delay_up)
 
 -- the first sixteen rows, and then the others
 pub two_halves : (pace : Pace) (tile old now new : List ℕ)
     → HasHalf pace tile 0 (squares_of pace) old now → HasHalf pace tile 16 (squares_of pace) now new
     → HasSteps pace tile new
-two_halves pace tile old now new upper lower = record {
-  at = λ r o row small. elim (cases_lt r 16) [
-    | inl above ↦
-        lower.kept (o + delay_of pace r) r row above
-        ∙ half_at pace tile 0 r o old now (omega arith) above small upper
-    | inr below ↦ half_at pace tile 16 r o now new below row small lower
-  ];
-}
+two_halves pace tile old now new upper lower = grind (arith, cases_lt, half_at)
 
 -- no squares yet
 pub no_squares : (pace : Pace) (tile : List ℕ) (first : ℕ) (old : List ℕ) → HasHalf pace tile first 0 old old
-no_squares pace tile first old = record {
-  there = λ t r from to start end. absurd (omega arith);
-  kept = λ t r row above. refl;
-  kept_below = λ t r row below. refl;
-}
+no_squares pace tile first old = omega arith

@@ -1,11 +1,11 @@
 -- One more row of a step.
 use mir.Val.{bool_byte}
-use Rattle.std.proofs.Common.{ℕ, ℤ, Bool, ◌%◌, ◌≡◌, ◌≢◌, ◌+◌, ◌-◌, ◌*◌, ◌<◌, ◌≤◌, ◌∙◌, ap, refl, sym, arith, inl, inr}
+use Rattle.std.proofs.Common.{ℕ, ℤ, Bool, ◌%◌, ◌≡◌, ◌≢◌, ◌+◌, ◌-◌, ◌*◌, ◌<◌, ◌≤◌, ◌∙◌, ap, sym, arith, inl, inr}
 use Rattle.std.proofs.Common.{List}
 use Rattle.std.proofs.Common.{get_or, set, length, get_or-set_same, get_or-set_other}
 use Rattle.std.proofs.lemmas.Bool.{cases_eq, cases_lt}
 use Rattle.std.proofs.lemmas.List.{set_past}
-use Rattle.diffusion_definitions.specs.Diffusion.{Table, error_of, is_dot, value}
+use Rattle.diffusion_definitions.specs.Diffusion.{error_of, is_dot, value}
 use Rattle.diffusion_kernel.specs.Tables.{table_of}
 use Rattle.diffusion_kernel.specs.declared.tables.Kernel.{Kernel}
 use Rattle.tile_lanes.specs.Held.{HeldInRange, error_held, same_in, up1_in, up2_in, value_in, value_in_row}
@@ -18,37 +18,19 @@ use Rattle.tile_lanes.proofs.RowCells.{five_are, two}
 use Rattle.tile_lanes.proofs.Bits.{bit_is}
 
 pub held_more : (xs : List ℕ) (at v : ℕ) → HeldInRange xs → v ≤ 4079 → HeldInRange (set xs at v)
-held_more xs at v all fits i = elim (cases_lt at (length xs)) [
-  | inl room ↦ elim (cases_eq i at) [
-    | inl here ↦ let is : get_or (set xs at v) i 0 ≡ v = ap (λ m. get_or (set xs at v) m 0) here
-        ∙ get_or-set_same xs at v 0 room in omega (arith, is)
-    | inr other ↦ let is = get_or-set_other xs at i v 0 other in let old = all i in omega (arith, is, old)
-  ]
-  | inr past ↦ let old = all i in let is = ap (λ ys. get_or ys i 0) (set_past xs at v past) in omega (arith, is, old)
-]
+held_more xs at v all fits i = grind (arith, cases_eq, cases_lt, get_or-set_other, get_or-set_same, set_past)
 
 -- ---- a step
 
 pub none_stepped : {kernel : Kernel} {amounts : List ℕ} {step first : ℕ} {xs dots : List ℕ}
     → IsStep kernel amounts step first 0 xs dots xs dots
-none_stepped {dots} = record {
-  errors = λ r o h g. let no : ⊥ = omega arith in absurd no;
-  left = λ r h g. let no : ⊥ = omega arith in absurd no;
-  dots = λ r o h g. let no : ⊥ = omega arith in absurd no;
-  before = λ m h. refl;
-  after = λ m h. refl;
-  dots_before = λ r h. refl;
-  dots_after = λ r h. refl;
-}
+none_stepped {dots} = grind arith
 
 -- a value among the errors of a field, from one among the errors that were read from it
 pub value_here : (kernel : Kernel) (amount v : ℕ) (same up1 up2 : List ℤ) (xs : List ℕ) (at : ℕ)
     → same ≡ same_in xs at → up1 ≡ up1_in (pace_of kernel) xs at → up2 ≡ up2_in (pace_of kernel) xs at
     → error_held v ≡ value (table_of kernel) amount same up1 up2 → error_held v ≡ value_in kernel amount xs at
-value_here kernel amount v same up1 up2 xs at is_same is_up1 is_up2 is =
-    is ∙ ap (λ s. value (table_of kernel) amount s up1 up2) is_same
-    ∙ ap (λ u. value (table_of kernel) amount (same_in xs at) u up2) is_up1
-    ∙ ap (value (table_of kernel) amount (same_in xs at) (up1_in (pace_of kernel) xs at)) is_up2
+value_here kernel amount v same up1 up2 xs at is_same is_up1 is_up2 is = cc
 
 -- A field that is as before in all earlier groups has the same errors near a pixel.
 cell_kept : (xs old : List ℕ) (at bound d : ℕ) → at < bound + 34 → 274 ≤ at
@@ -59,35 +41,20 @@ cell_kept xs old at bound d near far kept h i = let there : at - d < bound = ome
 up1_kept : (pace : Pace) (xs old : List ℕ) (at : ℕ)
     → ((d : ℕ) → 34 ≤ d → d ≤ 274 → error_held (get_or xs (at - d) 0) ≡ error_held (get_or old (at - d) 0))
     → up1_in pace xs at ≡ up1_in pace old at
-up1_kept Level xs old at cell =
-    five_are (cell 137 (omega arith) (omega arith)) (cell 103 (omega arith) (omega arith)) (cell 69 (omega arith) (omega arith))
-    (cell 35 (omega arith) (omega arith)) (cell 35 (omega arith) (omega arith))
-up1_kept Lagging xs old at cell =
-    five_are (cell 171 (omega arith) (omega arith)) (cell 137 (omega arith) (omega arith)) (cell 103 (omega arith) (omega arith))
-    (cell 69 (omega arith) (omega arith)) (cell 35 (omega arith) (omega arith))
+up1_kept Level xs old at cell = grind (arith, five_are)
+up1_kept Lagging xs old at cell = grind (arith, five_are)
 
 up2_kept : (pace : Pace) (xs old : List ℕ) (at : ℕ)
     → ((d : ℕ) → 34 ≤ d → d ≤ 274 → error_held (get_or xs (at - d) 0) ≡ error_held (get_or old (at - d) 0))
     → up2_in pace xs at ≡ up2_in pace old at
-up2_kept Level xs old at cell =
-    five_are (cell 206 (omega arith) (omega arith)) (cell 172 (omega arith) (omega arith)) (cell 138 (omega arith) (omega arith))
-    (cell 104 (omega arith) (omega arith)) (cell 70 (omega arith) (omega arith))
-up2_kept Lagging xs old at cell =
-    five_are (cell 274 (omega arith) (omega arith)) (cell 240 (omega arith) (omega arith)) (cell 206 (omega arith) (omega arith))
-    (cell 172 (omega arith) (omega arith)) (cell 138 (omega arith) (omega arith))
+up2_kept Level xs old at cell = grind (arith, five_are)
+up2_kept Lagging xs old at cell = grind (arith, five_are)
 
 -- So it gives the same value.
 pub value_kept : (kernel : Kernel) (amount : ℕ) (xs old : List ℕ) (at bound : ℕ) → at < bound + 34 → 274 ≤ at
     → ((m : ℕ) → m < bound → get_or xs m 0 ≡ get_or old m 0)
     → value_in kernel amount xs at ≡ value_in kernel amount old at
-value_kept kernel amount xs old at bound near far kept =
-    let k : Table = table_of kernel in
-    let pace : Pace = pace_of kernel in
-    let cell = λ (d : ℕ) (h : 34 ≤ d) (i : d ≤ 274). cell_kept xs old at bound d near far kept h i in
-    let same : same_in xs at ≡ same_in old at = two (cell 34 (omega arith) (omega arith)) (cell 68 (omega arith) (omega arith)) in
-    ap (λ s. value k amount s (up1_in pace xs at) (up2_in pace xs at)) same
-    ∙ ap (λ u. value k amount (same_in old at) u (up2_in pace xs at)) (up1_kept pace xs old at cell)
-    ∙ ap (value k amount (same_in old at) (up1_in pace old at)) (up2_kept pace xs old at cell)
+value_kept kernel amount xs old at bound near far kept = grind (arith, cell_kept, two, up1_kept, up2_kept)
 
 pub step_more : (kernel : Kernel) (amounts : List ℕ) (step first n at v : ℕ) {d f : ℕ} {on : Bool} {z : ℤ} {old old_dots xs dots : List ℕ}
     → at ≡ 34 * step + 2 + (first + n) → first + n < 32 → 8 ≤ step → at < length xs → first + n < length dots

@@ -88,52 +88,20 @@ loaded_left pace e c j f1 f2 left loaded is_left there kept = record {
 pub right_of : (pace : Pace) (e : Errors) (c j : ℕ) (f : List ℕ) (right : List ℤ) → IsFilled pace e c j (end_of pace) f
     → ((n : ℕ) → n < 192 → get_or right n (pos 0) ≡ error_held (get_or f (cell_of pace (2 + n / 6) (64 + n % 6)) 0))
     → Holds e j 2 (64 * c + 64) 32 6 right
-right_of pace e c j f right done taken = record {
-  at = λ t i row small.
-      let n : ℕ = 6 * t + i in
-      let here : cell_of pace (2 + n / 6) (64 + n % 6) ≡ cell_of pace (2 + t) (64 + i) =
-      cells_same pace _ _ (2 + t) (64 + i) (omega arith) (omega arith) in
-      let place : 64 * c + (64 + i) ≡ 64 * c + 64 + i = omega arith in
-      taken n (omega arith) ∙ ap (λ m. error_held (get_or f m 0)) here
-      ∙ done.before (2 + t) (64 + i) (omega arith) (omega arith)
-      (cell_done pace (2 + t) (64 + i) (omega arith) (omega arith))
-      ∙ ap (skewed e j (2 + t)) place;
-}
+right_of pace e c j f right done taken = grind (arith, cell_done, cells_same)
 
 pub bottom_of : (pace : Pace) (e : Errors) (c j : ℕ) (f : List ℕ) (bottom : List ℤ)
     → IsFilled pace e c j (end_of pace) f
     → ((n : ℕ) → n < 128 → get_or bottom n (pos 0) ≡ error_held (get_or f (cell_of pace (32 + n / 64) (6 + n % 64)) 0))
     → Holds e j 32 (64 * c + 6) 2 64 bottom
-bottom_of pace e c j f bottom done taken = record {
-  at = λ t i row small.
-      let n : ℕ = 64 * t + i in
-      let here : cell_of pace (32 + n / 64) (6 + n % 64) ≡ cell_of pace (32 + t) (6 + i) =
-      cells_same pace _ _ (32 + t) (6 + i) (omega arith) (omega arith) in
-      let place : 64 * c + (6 + i) ≡ 64 * c + 6 + i = omega arith in
-      taken n (omega arith) ∙ ap (λ m. error_held (get_or f m 0)) here
-      ∙ done.before (32 + t) (6 + i) (omega arith) (omega arith)
-      (cell_done pace (32 + t) (6 + i) (omega arith) (omega arith))
-      ∙ ap (skewed e j (32 + t)) place;
-}
+bottom_of pace e c j f bottom done taken = grind (arith, cell_done, cells_same)
 
 pub corner_of : (pace : Pace) (e : Errors) (c j : ℕ) (f : List ℕ) (corner : List ℤ)
     → IsFilled pace e c j (end_of pace) f
     → ((n : ℕ) → n < 12 → get_or corner n (pos 0) ≡ error_held (get_or f (cell_of pace (32 + n / 6) (64 + n % 6)) 0))
     → Holds e j 32 (64 * c + 64) 2 6 corner
-corner_of pace e c j f corner done taken = record {
-  at = λ t i row small.
-      let n : ℕ = 6 * t + i in
-      let here : cell_of pace (32 + n / 6) (64 + n % 6) ≡ cell_of pace (32 + t) (64 + i) =
-      cells_same pace _ _ (32 + t) (64 + i) (omega arith) (omega arith) in
-      let place : 64 * c + (64 + i) ≡ 64 * c + 64 + i = omega arith in
-      taken n (omega arith) ∙ ap (λ m. error_held (get_or f m 0)) here
-      ∙ done.before (32 + t) (64 + i) (omega arith) (omega arith)
-      (cell_done pace (32 + t) (64 + i) (omega arith) (omega arith))
-      ∙ ap (skewed e j (32 + t)) place;
-}
+corner_of pace e c j f corner done taken = grind (arith, cell_done, cells_same)
 
 pub all_bits : (kernel : Kernel) (p : Plane) (e : Errors) (c j : ℕ) (bits : List ℕ)
     → HasBits kernel p e c j (end_of (pace_of kernel)) bits → DotsSoFar (table_of kernel) p e c j 32 bits
-all_bits kernel p e c j bits f = record {
-  at = λ r o row small. f.at r o row small (dots_end (pace_of kernel) r o row small);
-}
+all_bits kernel p e c j bits f = grind (arith, dots_end)

@@ -1,4 +1,5 @@
 -- Blocks of errors whose places in a field are those of rows that go in step.
+use Rattle.std.proofs.lemmas.Grind.{common_steps}
 use Rattle.std.proofs.Common.{ℕ, ℤ, pos, ◌≡◌, ◌≢◌, ◌+◌, ◌*◌, ◌/◌, ◌<◌, ◌≤◌, ◌∙◌, ap, sym, subst, arith}
 use Rattle.std.proofs.Common.{List, get_or, set, to_z, of_z, w16}
 use Rattle.diffusion_definitions.specs.Diffusion.{EachInRange, InRange}
@@ -49,7 +50,4 @@ pub take_cell : (pace : Pace) (row place : ℕ → ℕ) (n next p l at len : ℕ
     → n < len → InRange v → v ≡ error_held (get_or xs at 0)
     → IsTaken (λ i. cell_of pace (row i) (place i)) n len xs out
     → IsTaken (λ i. cell_of pace (row i) (place i)) next len xs (set out n (to_z w16 (of_z w16 v)))
-take_cell pace row place n next p l at len v xs out is_next is_row is_place is_at room fits is f =
-    let cell : ℕ → ℕ = λ i. cell_of pace (row i) (place i) in
-    let here : at ≡ cell n = is_at ∙ sym (cells_same pace (row n) (place n) p l is_row is_place) in
-    take_more cell n next len v xs out is_next room fits (is ∙ ap (λ m. error_held (get_or xs m 0)) here) f
+take_cell pace row place n next p l at len v xs out is_next is_row is_place is_at room fits is f = grind (arith, common_steps, cells_same, take_more)

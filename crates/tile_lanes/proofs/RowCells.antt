@@ -56,13 +56,4 @@ pub record IsInside (p : Plane) (y x r u : ℕ) : Type 0 where
   pub down : y < p.height
 
 pub place_inside : (p : Plane) (j r u : ℕ) → is_place p j r u ≡ true → IsInside p (32 * j + r) (u - 2 * r) r u
-place_inside p j r u place =
-    let y : ℕ = 32 * j + r in
-    let x : ℕ = u - 2 * r in
-    let parts : (leb (2 * r) u ≡ true) × (inside p y x ≡ true) = and_parts (leb (2 * r) u) (inside p y x) place in
-    let sides : (ltb x p.width ≡ true) × (ltb y p.height ≡ true) = and_parts (ltb x p.width) (ltb y p.height) parts.1 in
-    record {
-      from = leb-true (2 * r) u parts.0;
-      across = ltb-true x p.width sides.0;
-      down = ltb-true y p.height sides.1;
-    }
+place_inside p j r u place = grind (arith, and_parts, leb-true, ltb-true)

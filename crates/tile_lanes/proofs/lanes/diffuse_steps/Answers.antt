@@ -2,8 +2,8 @@ use Rattle.std.proofs.Common.{ℕ, ◌≡◌, ap, arith, subst, ◌∙◌}
 use Rattle.diffusion_kernel.specs.declared.tables.Kernel.{Kernel}
 use Rattle.dot_planes.specs.Gathered.{HasPixels}
 use Rattle.tile_lanes.specs.Done.{plane_with}
-use Rattle.tile_lanes.specs.Lanes.{HasAmounts, HasBits, IsCleared, IsFilled}
-use Rattle.tile_lanes.specs.Paces.{delay_of, end_of, pace_of}
+use Rattle.tile_lanes.specs.Lanes.{HasAmounts, IsCleared}
+use Rattle.tile_lanes.specs.Paces.{delay_of, pace_of}
 use Rattle.tile_lanes.proofs.LaneAmounts.{steps_have}
 use Rattle.tile_lanes.proofs.LaneCells.{bits_more, dots_right, step_filled, step_right}
 use Rattle.tile_lanes.proofs.lanes.diffuse_steps.Goals as goal
@@ -37,15 +37,7 @@ loop-step-preserved c =
     }
 
 pub returns-clause-filled : goal.returns-clause-filled
-returns-clause-filled c = λ f e s start.
-    let end = c.end-step-end.ensures.is ∙ ap end_of c.of-pace.ensures in
-    let last : c.loop-step.step ≡ end_of (pace_of c.args.kernel) = omega (arith, end) in
-    subst (λ t. IsFilled (pace_of c.args.kernel) e c.args.place.c c.args.place.j t c.loop-step.field) last
-    (c.loop-step.invariant.filled f e s start)
+returns-clause-filled c = grind arith
 
 pub returns-clause-bits : goal.returns-clause-bits
-returns-clause-bits c = λ f e s start.
-    let end = c.end-step-end.ensures.is ∙ ap end_of c.of-pace.ensures in
-    let last : c.loop-step.step ≡ end_of (pace_of c.args.kernel) = omega (arith, end) in
-    subst (λ t. HasBits c.args.kernel (plane_with c.args.shape f) e c.args.place.c c.args.place.j t c.loop-step.bits) last
-    (c.loop-step.invariant.bits f e s start)
+returns-clause-bits c = grind arith

@@ -1,4 +1,4 @@
-use Rattle.std.proofs.Common.{ℕ, ◌≡◌, arith, subst, ◌%◌, ◌*◌, ◌+◌, ◌/◌}
+use Rattle.std.proofs.Common.{ℕ, ◌≡◌, arith, ◌%◌, ◌*◌, ◌+◌, ◌/◌}
 use Rattle.tile_lanes.specs.Paces.{cell_of}
 use Rattle.tile_lanes.specs.declared.lanes.pace.Pace.{Pace}
 use Rattle.tile_lanes.proofs.HeldBlocks.{IsPut, none_put}
@@ -12,10 +12,7 @@ pub loop-t-init : goal.loop-t-init
 loop-t-init c = none_put (at c.args.pace) (λ n. n) 0 _ _ (omega arith) c.requires.field
 
 pub loop-i-init : goal.loop-i-init
-loop-i-init c =
-    let none : 64 * c.loop-t.t ≡ 64 * c.loop-t.t + 0 = omega arith in
-    subst (λ n. IsPut (at c.args.pace) (λ m. m) 0 n c.args.above.now c.args.field.now c.loop-t.field)
-    none c.loop-t.invariant
+loop-i-init c = grind (arith, IsPut)
 
 pub loop-i-preserved : goal.loop-i-preserved
 loop-i-preserved c =
@@ -27,10 +24,7 @@ loop-i-preserved c =
     c.requires.above c.hold.ensures.most c.hold.ensures.is c.loop-i.invariant
 
 pub loop-t-preserved : goal.loop-t-preserved
-loop-t-preserved c =
-    let next : 64 * c.loop-t.t + c.loop-i.i ≡ 64 * (c.loop-t.t + 1) = omega arith in
-    subst (λ n. IsPut (at c.args.pace) (λ m. m) 0 n c.args.above.now c.args.field.now c.loop-i.field)
-    next c.loop-i.invariant
+loop-t-preserved c = grind (arith, IsPut)
 
 pub returns-clause-there : goal.returns-clause-there
 returns-clause-there c = λ n small. c.loop-t.invariant.there n (omega arith) (omega arith)

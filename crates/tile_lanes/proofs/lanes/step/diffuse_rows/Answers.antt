@@ -6,13 +6,7 @@ use Rattle.tile_lanes.proofs.Paces.{delay_up}
 use Rattle.tile_lanes.proofs.lanes.step.diffuse_rows.Goals as goal
 
 pub entered-requires-clause-all : goal.entered-requires-clause-all
-entered-requires-clause-all c = λ all.
-    let pace = pace_of c.args.kernel in
-    let r : ℕ = c.args.first + c.loop-i.i in
-    let behind : c.delay.result ≡ delay_of pace r = c.delay.ensures.is ∙ ap (λ q. delay_of q r) c.of-pace.ensures in
-    let up = delay_up pace r (c.args.first + 15) (omega arith) in
-    let last = c.requires.all all in
-    omega (arith, behind, up, last)
+entered-requires-clause-all c = grind (arith, delay_up)
 
 pub loop-i-init : goal.loop-i-init
 loop-i-init c = record { long = omega arith; dots_long = omega arith; in_range = c.requires.in_range; stepped = none_stepped }
