@@ -1,6 +1,6 @@
 -- The images of a sheet of the machine are those of its planes.
 use Rattle.std.proofs.Common.{◌≡◌, ℕ, zero, suc, ◌+◌, ◌-◌, ◌<◌, ◌≤◌, Bool, List, [], ◌∷◌, ◌++◌, map, Option, refl}
-use Rattle.std.proofs.Common.{sym, ◌∙◌, ap, subst, arith, append_assoc, append-nil}
+use Rattle.std.proofs.Common.{sym, ◌∙◌, ap, subst, arith, append_assoc}
 use Rattle.std.specs.List.{flat_map}
 use Rattle.std.specs.Io.KnownBytes.{Appends}
 use Rattle.std.proofs.KnownBytes.{Appends-nil, Appends-trans}
@@ -89,8 +89,3 @@ images_part old now now' of ink so_far below part =
     let left : List ℕ = flat_map of (count_from (ink + 1) (4 - (ink + 1))) in
     subst P (sym (so_far.is ∙ ap (λ bs. so_far.sent ++ bs) (next of ink below)))
     (part_behind old now now' so_far.sent (of ink ++ left) so_far.appends (part_of_front now now' (of ink) left part))
-
-pub images_all : (old now : Option (List ℕ)) (of : ℕ → List ℕ) → ImagesSoFar old now of 4 → Appends old now (flat_map of (count_from 0 4))
-images_all old now of so_far =
-    let P : List ℕ → Type 0 = Appends old now in
-    subst P (sym (so_far.is ∙ append-nil so_far.sent)) so_far.appends

@@ -25,7 +25,7 @@ use Rattle.job_feed.proofs.Jobs.{GaveCommands, commands_none, ends_whole, entry_
 use Rattle.job_feed.proofs.Jobs.{job_refused, rose_within, takes_all, takes_gave}
 use Rattle.job_player.specs.declared.player.PlayStop.{PlayStop}
 use Rattle.job_player.specs.declared.player.PlayStop.TheVariants as stop
-use Rattle.job_player.specs.Outcome.{PlayOutcome, PlaysAll, PlaysSome, PlaysTaken, TakesSheets, counted, sheets_of}
+use Rattle.job_player.specs.Outcome.{PlayOutcome, PlaysAll, PlaysTaken, TakesSheets, counted, sheets_of}
 use Rattle.job_player.specs.Pictures.{images, sheet_images, table_images}
 use Rattle.job_player.specs.Stops.{emulator_stop, feed_stop}
 use Rattle.job_player.proofs.Images.{images_are}
@@ -268,19 +268,6 @@ plays_untaken p most input out taken appends =
       end = subst Q (sym stops.1) tt;
       writes = subst R (sym stops.0) appends;
     }
-
--- what was taken begins with its own sheets
-pub plays_some : (p : Printer) (most : ℕ) (input out : Outside) → PlaysTaken p most input out → PlaysSome p most input out
-plays_some p most input out plays = record {
-  sheets = sheets_of p most plays.bytes;
-  takes = record {
-    bytes = plays.bytes;
-    taken = plays.taken;
-    others = [];
-    are = sym (append-nil (sheets_of p most plays.bytes));
-  };
-  writes = plays.writes;
-}
 
 -- the machine refuses a command
 pub plays_to_refusal : (p : Printer) (most : ℕ) (e e' : Emulator) (old new : JobFeed)

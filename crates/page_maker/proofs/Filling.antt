@@ -16,15 +16,6 @@ pub record FilledSoFar (unit seed : ℕ) (first : List ℕ) (line : List ℕ) (f
       ≡ (made_line unit (length first / unit) (length first / unit) seed).bytes
   pub state : (made_line unit left left now).state ≡ (made_line unit (length first / unit) (length first / unit) seed).state
 
-pub filled_begin : (unit seed : ℕ) (line : List ℕ) → 1 ≤ unit → length line % unit ≡ 0 → FilledSoFar unit seed line line 0 seed
-filled_begin unit seed line some whole = record {
-  left = length line / unit;
-  same = refl;
-  whole = omega arith;
-  bytes = refl;
-  state = refl;
-}
-
 -- as many units are left as the bytes that are left have
 pub units_left : (unit left filled len : ℕ) → 1 ≤ unit → len ≡ filled + left * unit → (len - filled) / unit ≡ left
 units_left unit left filled len some whole =

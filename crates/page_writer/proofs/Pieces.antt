@@ -3,7 +3,7 @@ use Rattle.std.proofs.Common.{◌≡◌, ℕ, zero, suc, ◌+◌, ◌-◌, ◌*�
 use Rattle.std.proofs.Common.{List, [], ◌∷◌, ◌++◌, length, map, filter, Option, refl, sym, ◌∙◌, ap, subst, arith}
 use Rattle.std.proofs.Common.{append_assoc, append-nil, length-append, length-set, drop, take, vec_len, nat_eq, slice_index_or, slice_set, ◌^◌}
 use Rattle.std.specs.Io.KnownBytes.{Appends}
-use Rattle.std.proofs.KnownBytes.{Appends-nil, Appends-trans}
+use Rattle.std.proofs.KnownBytes.{Appends-trans}
 use Rattle.std.proofs.lemmas.Bool.{eqb-false, eqb-true, lt-ltb}
 use Rattle.std.proofs.lemmas.List.{get_or-set_other, get_or-set_same, length-drop, map-append, take_all}
 use Rattle.std.proofs.Math.Seq.{drop-append_seam}
@@ -127,18 +127,6 @@ bytes-join page last at m n there is =
     ∙ ap (λ k. sent_bytes page last at m ++ sent_bytes page k (at + m) n) (sym is)
 
 -- ---- what is sent
-
--- nothing is sent
-pub sends_none : (page : HeadPage) (last at : ℕ) (held : Option (List ℕ))
-    → SendsStrokes page last at 0 held held (record { bytes = 0; rasters = 0; last = last })
-sends_none page last at held = record {
-  appends = Appends-nil held;
-  bytes_are = refl;
-  rasters_are = refl;
-  left = refl;
-  short = omega arith;
-  few = omega arith;
-}
 
 -- one part after another
 pub sends_join : {page : HeadPage} {last at m n : ℕ} {a b d : Option (List ℕ)} {one two : Sent}

@@ -91,12 +91,6 @@ takes_from_left before left unread none takes want =
     let P : Option (List ℕ) → Type 0 = λ text. TakesAllPages want text left [] in
     subst P (none_unread before unread none) (takes want)
 
--- nothing was taken
-pub takes_nothing : (want : Wanted) (before left : Option (List ℕ)) → Keeps before left → TakesAllPages want before left []
-takes_nothing want before left kept =
-    let P : Option (List ℕ) → Type 0 = Keeps before in
-    takes_no_sync before left [] (subst P (sym (prepend_known-nil left)) kept) (omega arith) want
-
 -- ---- headers
 
 no_pages : (want : Wanted) (most page : ℕ) → pages_from want most page [] ≡ record { pages = []; end = Done }

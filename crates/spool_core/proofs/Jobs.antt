@@ -14,7 +14,6 @@ use Rattle.page_definitions.specs.Ways.Way.{Woven}
 use Rattle.printer_definitions.specs.Printer.{Printer}
 use Rattle.spool_queue.specs.Jobs.{Stream}
 use Rattle.spool_queue.specs.declared.job.SpoolJob.{SpoolJob}
-use Rattle.weave_base.specs.Causes.{Rose}
 use Rattle.spool_core.specs.Outcome.{HasPlainStatus, is_refused}
 use Rattle.spool_core.specs.Printed.{AreDone, Between, PrintsJob, PrintsJobs, PrintsStream, meters_from, out_from}
 use Rattle.spool_core.specs.declared.report.Ran.{Ran}
@@ -58,14 +57,6 @@ plain_all p k (job ∷ jobs) (ran ∷ done) a b are fine =
     All-cons HasPlainStatus ran done (plain_one p k job ran a are.0 are.1 (All-head P ran done fine))
     (plain_all p k jobs done are.0 b are.2 (All-tail P ran done fine))
 plain_all p k jobs done a b are fine = absurd are
-
--- a write that fails stops in the page after those that were written
-pub write_stopped : (p : Printer) (k : Table) (bytes : Stream) (pages number : ℕ) (x y : Between)
-    → PrintsStream p k bytes pages (answer.Write number) x y → (number ≡ pages + 1) × Rose x.faults y.faults
-write_stopped p k bytes pages number x y prints =
-    let stops = prints.printed.0.1.number_is in
-    let is = prints.printed.1 in
-    (omega arith, prints.printed.0.0)
 
 -- the status of a job of which none of two counts tells
 zero_one : (ran : Ran) → HasPlainStatus ran → is_refused ran ≡ false → ran.status ≢ 7 → ran.status ≡ 0

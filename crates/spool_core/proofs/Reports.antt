@@ -5,7 +5,7 @@ use Rattle.std.proofs.KnownBytes.{Appends-trans}
 use Rattle.std.specs.Io.KnownBytes.{Appends}
 use Rattle.buffered_bytes.specs.Outside.{Outside}
 use Rattle.weave_base.proofs.Parting.{part_behind, part_of_front}
-use Rattle.weave_base.specs.Causes.{HasCause, Rose}
+use Rattle.weave_base.specs.Causes.{HasCause}
 use Rattle.weave_base.specs.Parts.{AppendsPart}
 use Rattle.spool_core.specs.Answers.{Tells, report_line, report_lines}
 use Rattle.spool_core.specs.declared.report.Ran.{Ran}
@@ -52,8 +52,3 @@ tells_both (Ok x) err mid faults lines line bytes is first later ok part cause =
     inl (Appends-trans err.before mid err.now lines line first (subst (λ bs. Appends mid err.now bs) is ok))
 tells_both (Err e) err mid faults lines line bytes is first later ok part cause =
     inr (rose_later later cause.failed, part_behind err.before mid err.now lines line first (subst (λ bs. AppendsPart mid err.now bs) is part))
-
--- the lines of the jobs were not all written
-pub tells_part : (err : Outside) (lines line : List ℕ) → Rose err.faults_before err.faults_now
-    → AppendsPart err.before err.now lines → Tells err (lines ++ line)
-tells_part err lines line rose part = inr (rose, part_of_front err.before err.now lines line part)

@@ -53,12 +53,6 @@ not_all_ran p k sent jobs rest out meters done (answer.Write sender job page) ar
     (risen, record { jobs = jobs; others = rest; are = are; prints = prints }, stops)
 not_all_ran p k sent jobs rest out meters done other are prints risen stops = absurd stops
 
--- a word is refused
-pub refused_word : (words : List (List ℕ)) (o : SpoolOutside) (done : List Ran) (fault : SpoolFault) → Err fault ≡ spool_meaning words
-    → PrintsNone o.out o.meters done → SpoolOutcome words o done (answer.Usage fault)
-refused_word words o done fault means none =
-    subst (λ (m : Result SpoolRequest SpoolFault). RequestOutcome m words o done (answer.Usage fault)) means (refl, none)
-
 no_built_in : (p : Option Printer) → (IsSome p → ⊥) → p ≡ None
 no_built_in None h = refl
 no_built_in (Some p) h = absurd (h refl)

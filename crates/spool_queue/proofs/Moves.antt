@@ -1,6 +1,6 @@
 -- Each move keeps the rule of the spool.
 use Rattle.std.proofs.Common.{◌≡◌, ◌≢◌, ℕ, zero, suc, ◌+◌, ◌≤◌, ⊎_elim, List, [], ◌∷◌, ◌++◌, length, set, sym, refl, ap, ◌∙◌, subst, append_assoc, append-nil, arith, length-append}
-use Rattle.std.specs.Prelude.{true, false, slice_index_or}
+use Rattle.std.specs.Prelude.{true, slice_index_or}
 use mathlib.Core.Option.{Option, none, some, some-injective, some-ne-none}
 use mathlib.Core.Logic.{dite}
 use native.Mathlib.Decide.{ℕ_discrete, dec_le}
@@ -16,9 +16,6 @@ use Rattle.spool_queue.specs.Jobs.{AreSent, Stream, jobs_of, numbered, sent_by, 
 use Rattle.spool_queue.specs.Rule.{printer_view, sender_view, spent_view, FitsSender, FitsPrinter, HasEnded, FollowsRule, IsAsSent, IsNext, IsSettled}
 use Rattle.spool_queue.proofs.Lists.{jobs_of-append, jobs_of_here, jobs_of_else, numbered_snoc, not_empty, next_number, put, put_here, put_else, at_last_or}
 use Rattle.spool_queue.proofs.Sums.{length_sent}
-
-no_sender : (v : QueueView) → v.sends ≡ false → v.sends ≡ true → ⊥
-no_sender v e p = true≢false (sym p ∙ e)
 
 -- all seats after one has changed: the changed one, and another
 after_set : (F : ℕ → QueueView → Type 0) (views : List QueueView) (i : ℕ) (w : QueueView) → F i w → ((j : ℕ) (u : QueueView) → j ≢ i → get_elem? views j ≡ some u → F j u)

@@ -62,9 +62,6 @@ gather_step {v = v} {w = w} {x = x} {left = left} g e =
       order = (o.1.0, omega arith, o.1.2 ∙ ap (λ n. count_from (suc n) o.1.0) (sym count));
     }
 
-pub gather_done : {F : SendPass → Type 0} {start : QueueView} {all : List SendPass} {v : QueueView} → Gathering F start all v [] → v ≡ printer_view start.senders start.taken (sent_lists all)
-gather_done {start = start} {v = v} g = g.role ∙ ap (printer_view start.senders start.taken) (sym (append-nil v.ended) ∙ g.known)
-
 -- a printer that finds nothing has taken all
 pub drained : {v : QueueView} {lists : List (List Stream)} (before after items : List SpoolJob) → v.taken ≡ before ++ after → v.ended ≡ lists → length items ≡ 0 → IsSettled v items → AreSent (sent_by lists) (before ++ after)
 drained {v = v} before after [] t k e all s = ap (jobs_of s) (sym t ∙ sym (append-nil v.taken)) ∙ all.each s ∙ ap (λ l. numbered s 1 (sent_by l s)) k

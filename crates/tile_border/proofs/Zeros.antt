@@ -5,7 +5,7 @@ use Rattle.std.proofs.lemmas.Bool.{cases_eq, cases_lt}
 use Rattle.std.proofs.lemmas.Int.{ints}
 use Rattle.std.proofs.lemmas.List.{get_or-replicate, get_or_past, length-replicate}
 use Rattle.diffusion_definitions.specs.Diffusion.{EachInRange, InRange}
-use Rattle.tile_border.specs.Inks.{AreInks, AreZeros, errors_of}
+use Rattle.tile_border.specs.Inks.{AreZeros, errors_of}
 
 pub some_zeros : (len n : ℕ) → get_or (replicate len (pos 0)) n (pos 0) ≡ pos 0
 some_zeros len n = elim (cases_lt n len) [
@@ -24,13 +24,6 @@ zeros inks len edge is = record {
 
 pub zero_fits : InRange (pos 0)
 zero_fits = record { low = omega (arith, ints); high = omega (arith, ints) }
-
-zeros_are_inks : (edge : List (List ℤ)) → 1 ≤ length edge → length edge ≤ 4 → AreZeros edge → AreInks edge
-zeros_are_inks edge some most z = record {
-  some_inks = some;
-  most_inks = most;
-  in_range = λ ink n. let Q : ℤ → Type 0 = λ e. InRange e in subst Q (sym (z.at ink n)) zero_fits;
-}
 
 -- ---- errors in range
 

@@ -63,10 +63,3 @@ pub two_part : {T E : Type 0} (r : Result T E) (a b d : Option (List ℕ)) (whol
 two_part r a b d whole xs ys is p q =
     let P : List ℕ → Type 0 = λ bs. OnErr r (AppendsPart a d bs) in
     subst P (sym is) (on_err_behind r a b d xs ys p q)
-
--- the first write failed
-pub two_first : {T E : Type 0} (r : Result T E) (a b : Option (List ℕ)) (whole xs ys : List ℕ) → whole ≡ xs ++ ys
-    → AppendsPart a b xs → OnErr r (AppendsPart a b whole)
-two_first r a b whole xs ys is p =
-    let P : List ℕ → Type 0 = λ bs. OnErr r (AppendsPart a b bs) in
-    subst P (sym is) (on_err_anyway r (part_of_front a b xs ys p))

@@ -14,7 +14,7 @@ use Rattle.driver_core.specs.Outside.{IsCalm, Outside, Outsides}
 use Rattle.driver_core.specs.Playing.Outcome.{PlayOutcome}
 use Rattle.driver_core.specs.Playing.Promises.{DotsPromises}
 use Rattle.driver_core.specs.Runs.Asking.{AsksFor}
-use Rattle.driver_core.specs.Runs.Outcome.{Outcome, Told, VerbOutcome, metered}
+use Rattle.driver_core.specs.Runs.Outcome.{Outcome, Told}
 use Rattle.driver_core.proofs.Runs.Asked.{HasProfile, at_work, calm_work, has_profile, told_line}
 use Rattle.driver_core.proofs.Runs.Asked.HasProfile.{HasNone, Does}
 use Rattle.driver_core.proofs.Runs.Nothing.{appends_none, consumes_none}

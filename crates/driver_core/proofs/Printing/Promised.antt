@@ -13,7 +13,7 @@ use Rattle.page_definitions.specs.Ways.{Way}
 use Rattle.printer_definitions.specs.Printer.{Printer}
 use Rattle.pwg_definitions.specs.Stream.{stream}
 use Rattle.driver_core.specs.Outside.{Meters, Outside, Outsides}
-use Rattle.driver_core.specs.Printing.Outcome.{CountsOneMore, CountsPages, PrintOutcome, PrintsSome, PrintsTaken}
+use Rattle.driver_core.specs.Printing.Outcome.{CountsOneMore, CountsPages, PrintsSome, PrintsTaken}
 use Rattle.driver_core.specs.Printing.Promises.{PrintPromises}
 use Rattle.driver_core.specs.Runs.Asking.{AsksFor}
 use Rattle.driver_core.specs.Runs.Fitting.{way_of}

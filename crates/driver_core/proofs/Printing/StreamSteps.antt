@@ -33,9 +33,6 @@ with_pages pages s = record { pages = pages ++ s.pages; end = s.end }
 with_pages-append : (done : List Page) (page : Page) (s : Stream) → with_pages done (with_page page s) ≡ with_pages (done ++ page ∷ []) s
 with_pages-append done page s = ap (λ ps. record { pages = ps; end = s.end }) (sym (append_assoc done (page ∷ []) s.pages))
 
-with_pages-none : (s : Stream) → with_pages [] s ≡ s
-with_pages-none s = refl
-
 -- These pages of the input were read and their jobs written; the rest of the text is the rest of the stream.
 pub record StreamSoFar (way : Way) (p : Printer) (k : Table) (before left held now : Option (List ℕ)) (reader : PageReader)
     (number : ℕ) (done : List Page) : Type 0 where

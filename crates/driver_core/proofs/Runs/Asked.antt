@@ -1,5 +1,5 @@
 -- The outcome of a run whose words ask for a command and a profile.
-use Rattle.std.proofs.Common.{◌≡◌, ℕ, ◌⊎◌, List, Option, None, Some, Result, Ok, Err, inl, inr, sym, ◌∙◌, ap, subst, arith}
+use Rattle.std.proofs.Common.{◌≡◌, ℕ, ◌⊎◌, List, None, Result, Ok, Err, inl, inr, sym, ◌∙◌, ap, subst, arith}
 use Rattle.std.specs.Io.KnownBytes.{Appends, Keeps}
 use Rattle.driver_answer.specs.declared.answer.Answer.{Answer}
 use Rattle.driver_answer.specs.declared.answer.Answer.TheVariants as answer
@@ -16,7 +16,7 @@ use Rattle.job_words.specs.declared.usage.UsageFault.{UsageFault}
 use Rattle.job_words.specs.Meaning.{job_meaning, profile_named}
 use Rattle.printer_definitions.specs.Printer.{Printer}
 use Rattle.printer_profile.specs.Profiles.{built_in}
-use Rattle.driver_core.specs.Outside.{HasFailed, IsCalm, Outside, Outsides}
+use Rattle.driver_core.specs.Outside.{HasFailed, Outside, Outsides}
 use Rattle.driver_core.specs.Runs.Asking.{AsksFor}
 use Rattle.driver_core.specs.Runs.Fitting.{IsProfileOf}
 use Rattle.driver_core.specs.Runs.Outcome.{LineOutcome, NoProfile, Outcome, ProfileStopped, Tells, Told}

@@ -19,7 +19,7 @@ use Rattle.driver_core.specs.Runs.Outcome.{LineOutcome, ListsJob, NoProfile, Out
 use Rattle.driver_core.specs.Runs.Promises.{Promises}
 use Rattle.driver_core.proofs.Runs.Asked.{Without, asked, shelf_failed, told_line, without}
 use Rattle.driver_core.proofs.Runs.Asked.Without.{Refuses, ShelfFails, ShelfFills}
-use Rattle.driver_core.proofs.Runs.Statuses.{in_range, is_done, is_input, is_job, is_over_cap, is_profile, is_read, is_usage, is_write}
+use Rattle.driver_core.proofs.Runs.Statuses.{in_range, is_done, is_input, is_job, is_profile, is_read, is_usage, is_write}
 
 -- ---- what each answer says of the command that gives it
 

@@ -8,7 +8,7 @@ use Rattle.job_words.specs.declared.table.Verb.TheVariants as verb
 use Rattle.printer_definitions.specs.Printer.{Printer}
 use Rattle.driver_core.specs.Outside.{IsCalm, Outside, Outsides}
 use Rattle.driver_core.specs.Runs.Asking.{AsksFor}
-use Rattle.driver_core.specs.Runs.Outcome.{Outcome, Told, VerbOutcome, metered}
+use Rattle.driver_core.specs.Runs.Outcome.{Outcome, Told}
 use Rattle.driver_core.specs.Showing.Outcome.{ShowOutcome}
 use Rattle.driver_core.specs.Showing.Promises.{ProfilePromises}
 use Rattle.driver_core.proofs.Runs.Asked.{HasProfile, at_work, calm_work, has_profile, reads_nothing, told_line}

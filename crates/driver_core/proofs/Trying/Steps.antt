@@ -29,7 +29,6 @@ use Rattle.diffusion_kernel.specs.Tables.{table_of}
 use Rattle.driver_answer.specs.declared.answer.Answer.{Answer}
 use Rattle.halftone_reader.specs.SoFar.{EndsSo}
 use Rattle.job_words.specs.declared.reading.Job.{Job}
-use Rattle.pwg_definitions.specs.declared.pages.Wanted.{Wanted}
 use Rattle.pwg_definitions.specs.Stream.StreamEnd.{Done, Fault}
 use Rattle.pwg_stream.specs.declared.stops.StreamStop.{StreamStop}
 use Rattle.pwg_stream.specs.declared.stops.StreamStop.TheVariants as stop
@@ -121,17 +120,6 @@ tried_page {way} {p} {k} {before} {left} {left'} {written} {old} now reader numb
     }
 
 -- ---- where it ends
-
--- the stream does not begin as one
-pub begin_stops : (job : Job) (p : Printer) (made : List ℕ) (why : StreamStop) (a : Answer) → made ≡ stream_made job p
-    → OnInput {T = PageReader} (Err why) (λ page line cause. (want : Wanted)
-    → stream want made ≡ record { pages = []; end = Fault page line cause })
-    → (IsErrOf {T = PageReader} (Err why) stop.Read → Rose 0 0) → a ≡ stream_answer why → StopsTrying job p a
-begin_stops job p made (stop.Input page line cause) a is bad rose answered =
-    subst (StopsTrying job p) (sym answered)
-    (ap (λ bs. (stream (wanted_by p) bs).end) (sym is) ∙ ap (λ (s : Stream). s.end) (bad (wanted_by p)))
-begin_stops job p made stop.Read a is bad rose answered = absurd (omega (arith, (rose refl).rose))
-begin_stops job p made stop.Memory a is bad rose answered = subst (StopsTrying job p) (sym answered) tt
 
 -- the stream stops in its next page
 pub page_stops : (T : Type 0) {way : Way} {k : Table} {left : Option (List ℕ)} {reader : PageReader} {number : ℕ}

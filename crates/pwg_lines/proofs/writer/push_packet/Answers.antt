@@ -2,7 +2,6 @@ use Rattle.std.proofs.Common.{sym, arith}
 use Rattle.std.proofs.lemmas.List.{length-take-le}
 use Rattle.pwg_lines.proofs.Writing.{IsCountedLine, counted_line, scaled}
 use Rattle.pwg_lines.proofs.writer.push_packet.Goals as goal
-use Rattle.pwg_lines.proofs.writer.push_packet.Goals.{then-alone-eq1, else-alone-eq1}
 
 pub overflow_cast-run : goal.overflow_cast-run
 overflow_cast-run c =
