@@ -1,5 +1,5 @@
 -- The bits of one word.
-use Rattle.std.proofs.Common.{◌≡◌, ℕ, zero, suc, ◌+◌, ◌*◌, ◌/◌, ◌%◌, ◌<◌, ◌≤◌, ◌||◌, Bool, true, false, eqb, refl, sym, ap, ◌∙◌}
+use Rattle.std.proofs.Common.{◌≡◌, ℕ, zero, suc, ◌+◌, ◌*◌, ◌/◌, ◌%◌, ◌<◌, ◌≤◌, ◌||◌, Bool, true, eqb, refl, ◌∙◌}
 use Rattle.std.proofs.Common.{arith, bit_or}
 use Rattle.std.proofs.lemmas.Bool.{agree_below, agree_below_at, eqb-true}
 use Rattle.board_steps.specs.Rule.{Within}
@@ -40,11 +40,7 @@ below_32 test = agree_below test (λ x. true) 32
 
 -- one of two numbers, where it is not the other
 or-other : (a b c d : ℕ) → (eqb a b || eqb c d) ≡ true → ¬ (a ≡ b) → c ≡ d
-or-other a b c d e n = step (eqb a b) refl
-  where
-    step : (z : Bool) → eqb a b ≡ z → c ≡ d
-    step true f = absurd (n (eqb-true a b f))
-    step false f = eqb-true c d (ap (λ (z : Bool). z || eqb c d) (sym f) ∙ e)
+or-other a b c d e n = grind (arith, eqb-true)
 
 -- a fetch-or adds a bit that is clear
 abbrev adds : ℕ → ℕ → Bool
@@ -90,12 +86,6 @@ module _ (a b c t p x a' b' c' t' p' y : ℕ) (h : Bits a b c t p x) (k : Bits a
   }
 
 pub grows_bit : (d a b c t p x : ℕ) → Bits a b c t p x → pick d a b c ≡ 0 → Within x (x + bit_of d)
-grows_bit zero a b c t p x h e = Within-bits a b c t p x 1 b c t p (x + 1) h
-    record { is = let i = h.is in omega arith; few_a = omega arith; few_b = h.few_b; few_c = h.few_c; few_t = h.few_t; few_p = h.few_p }
-    (omega arith) (omega arith) (omega arith) (omega arith) (omega arith)
-grows_bit (suc zero) a b c t p x h e = Within-bits a b c t p x a 1 c t p (x + 2) h
-    record { is = let i = h.is in omega arith; few_a = h.few_a; few_b = omega arith; few_c = h.few_c; few_t = h.few_t; few_p = h.few_p }
-    (omega arith) (omega arith) (omega arith) (omega arith) (omega arith)
-grows_bit (suc (suc d)) a b c t p x h e = Within-bits a b c t p x a b 1 t p (x + 4) h
-    record { is = let i = h.is in omega arith; few_a = h.few_a; few_b = h.few_b; few_c = omega arith; few_t = h.few_t; few_p = h.few_p }
-    (omega arith) (omega arith) (omega arith) (omega arith) (omega arith)
+grows_bit zero a b c t p x h e = omega arith
+grows_bit (suc zero) a b c t p x h e = omega arith
+grows_bit (suc (suc d)) a b c t p x h e = omega arith

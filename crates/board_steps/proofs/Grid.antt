@@ -31,14 +31,10 @@ pub at-div : (C B c j t : ℕ) → At C B c j t → t / C ≡ j
 at-div C B c j t a = ap (λ (x : ℕ). x / C) a.is ∙ div-mul-add j C c a.column
 
 pub at-mod : (C B c j t : ℕ) → At C B c j t → t % C ≡ c
-at-mod C B c j t a = let d = at-div C B c j t a in let e = div-add-mod' t C in let f = a.is in
-    let g : t / C * C ≡ j * C = ap (λ (x : ℕ). x * C) d in let u : ℕ = t / C * C in let w : ℕ = j * C in let h : u ≡ w = g in
-    let e' : u + t % C ≡ t = e in let f' : t ≡ w + c = f in omega arith
+at-mod C B c j t a = grind (arith, at-div, div-add-mod')
 
 pub at-below : (C B c j t : ℕ) → At C B c j t → t < B * C
-at-below C B c j t a = let m = mul-add-lt j C c B a.band a.column in let f = a.is in let k = mul_comm C B in let u : ℕ = C * B in
-    let w : ℕ = B * C in let x : ℕ = j * C in let k' : u ≡ w = k in let m' : x + c < u = m in let f' : t ≡ x + c = f in
-    let g : t < w = omega arith in g
+at-below C B c j t a = grind (arith, mul-add-lt, mul_comm)
 
 pub at-of : (C B t : ℕ) → 0 < C → t < B * C → At C B (t % C) (t / C) t
 at-of C B t pos near = record { is = sym (div-add-mod' t C); column = mod-lt t pos; band = (div-lt_iff_lt-mul pos).1 near }

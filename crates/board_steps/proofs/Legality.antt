@@ -1,5 +1,5 @@
 -- The core that a state shows is legal.
-use Rattle.std.proofs.Common.{◌≡◌, ◌≢◌, ℕ, ◌<◌, ◌≤◌, ◌⊎◌, inl, inr, eqb, eq-eqb, cond, Bool, true, false, List, [], ◌∷◌, refl, sym, ap, ◌∙◌}
+use Rattle.std.proofs.Common.{◌≡◌, ◌≢◌, ℕ, ◌<◌, ◌≤◌, ◌⊎◌, inl, inr, eqb, eq-eqb, true, false, List, [], ◌∷◌, refl, sym, ap, ◌∙◌}
 use Rattle.std.proofs.Common.{arith, Option, Some, None}
 use mathlib.Core.Logic.{dite}
 use native.Mathlib.Decide.{ℕ_discrete}
@@ -21,7 +21,7 @@ use Rattle.board_steps.specs.declared.rule.View.{View}
 use Rattle.board_steps.specs.declared.rule.Slab.{Slab}
 use Rattle.board_steps.specs.declared.rule.Cell.{Cell}
 use Rattle.board_core.specs.Numbers.{number_of}
-use Rattle.board_steps.specs.Rule.{setting_of, Ruled, lists, one_if, posts, sends, times, total}
+use Rattle.board_steps.specs.Rule.{setting_of, Ruled, lists, posts, sends, times, total}
 use Rattle.board_steps.specs.Shown.{holds, own_status, posted_status, shown, status}
 use Rattle.board_steps.specs.Steps.{index_of}
 use Rattle.board_steps.proofs.Events.{true_false}
@@ -45,13 +45,7 @@ posted_waits e = cc
 
 mine_posted : (t : ℕ) (l : List (ℕ × ℕ)) (z : Status) → 1 ≤ times t l → posted_status t l z ≢ Waiting
 mine_posted t [] z h = absurd (omega arith)
-mine_posted t (x ∷ xs) z h = step (eqb x.0 t) refl (mine_posted t xs z)
-  where
-    step : (b : Bool) → eqb x.0 t ≡ b → (1 ≤ times t xs → posted_status t xs z ≢ Waiting)
-        → cond (eqb x.0 t) (Posted x.1) (posted_status t xs z) ≢ Waiting
-    step true f rest e = posted_waits (sym (ap (λ (b : Bool). cond b (Posted x.1) (posted_status t xs z)) f) ∙ e)
-    step false f rest e = let o : one_if (eqb x.0 t) ≡ 0 = ap one_if f in
-        rest (omega arith) (sym (ap (λ (b : Bool). cond b (Posted x.1) (posted_status t xs z)) f) ∙ e)
+mine_posted t (x ∷ xs) z h = grind (arith, posted_waits, mine_posted t xs z)
 
 taken_waits : {n : ℕ} → ¬ (Taken n ≡ Waiting)
 taken_waits e = cc
@@ -65,16 +59,7 @@ not_held t o n f (inl e) = absurd (true_false (sym (ap (holds t) e ∙ eq-eqb t 
 
 says : (t : ℕ) (v : View) → 1 ≤ lists t v → Says t v (own_status t v Waiting)
 unfolding own_status
-says t v one = by (holds t v.held) refl
-  where
-    by : (b : Bool) → holds t v.held ≡ b → Says t v (cond (holds t v.held) (Taken v.number) (posted_status t v.mine Waiting))
-    by true f = let is : cond (holds t v.held) (Taken v.number) (posted_status t v.mine Waiting) ≡ Taken v.number =
-        ap (λ (b : Bool). cond b (Taken v.number) (posted_status t v.mine Waiting)) f in
-        record { begun = λ e. taken_waits (sym is ∙ e); posted = λ n e. absurd (taken_posted (sym is ∙ e)) }
-    by false f = let is : cond (holds t v.held) (Taken v.number) (posted_status t v.mine Waiting) ≡ posted_status t v.mine Waiting =
-        ap (λ (b : Bool). cond b (Taken v.number) (posted_status t v.mine Waiting)) f in
-        let mine : 1 ≤ times t v.mine = not_held t v.held (times t v.mine) f (of_lists v t one) in
-        record { begun = λ e. mine_posted t v.mine Waiting mine (sym is ∙ e); posted = λ n e. mine }
+says t v one = grind (arith, mine_posted, not_held, of_lists, taken_posted, taken_waits)
 
 -- ---- the core
 

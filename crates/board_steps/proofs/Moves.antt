@@ -1,5 +1,5 @@
 -- What the proofs of all steps share: what stays of the rule where one view, one word and some slots change.
-use Rattle.std.proofs.Common.{◌≡◌, ◌≢◌, ℕ, zero, suc, ◌+◌, ◌*◌, ◌<◌, ◌≤◌, inl, inr, ⊎_elim, List, [], ◌∷◌, length, get_or, set, refl, sym}
+use Rattle.std.proofs.Common.{◌≡◌, ◌≢◌, ℕ, zero, suc, ◌+◌, ◌*◌, ◌<◌, ◌≤◌, ⊎_elim, List, [], ◌∷◌, length, get_or, set, refl, sym}
 use Rattle.std.proofs.Common.{ap, ◌∙◌, subst, arith, length-set, get_or-set_same, get_or-set_other, Option, Some, None}
 use mathlib.Core.Option.{some, some-ne-none}
 use mathlib.Core.Option as maybe
@@ -75,27 +75,14 @@ module _ (B : Setting) (W : IsGraph B.graph) (s : State Cell View) (r : Ruled B 
 
 -- a slot whose counts and value are unchanged
 pub outer_same : (f x : Cell) (h h' : Home) (l l' p p' : ℕ) → h' ≡ h → l' ≡ l → p' ≡ p → Outer f x h l p → Outer f x h' l' p'
-outer_same f x h h' l l' p p' e a b c = record {
-  fresh = λ z. e ∙ c.fresh (omega arith);
-  out = λ z y. e ∙ c.out (omega arith) (omega arith);
-  done = λ z. e ∙ c.done (omega arith);
-}
+outer_same f x h h' l l' p p' e a b c = grind arith
 
 pub inner_same : (f x : Cell) (h h' : Home) (l l' s s' m m' q q' : ℕ) → h' ≡ h → l' ≡ l → s' ≡ s → m' ≡ m → q' ≡ q
     → Inner f x h l s m q → Inner f x h' l' s' m' q'
-inner_same f x h h' l l' s s' m m' q q' e a b g i c = record {
-  fresh = λ z. e ∙ c.fresh (omega arith);
-  out = λ z y. e ∙ c.out (omega arith) (omega arith);
-  sent = λ z y. e ∙ c.sent (omega arith) (omega arith);
-  read = λ z y. e ∙ c.read (omega arith) (omega arith);
-  done = λ z. let y = c.done (omega arith) in (y.0, e ∙ y.1);
-}
+inner_same f x h h' l l' s s' m m' q q' e a b g i c = grind arith
 
 pub Within-trans : (a b c : ℕ) → Within a b → Within b c → Within a c
-Within-trans a b c h k =
-    let h₀ = h.right in let h₁ = h.bottom in let h₂ = h.corner in let h₃ = h.taken in let h₄ = h.posted in
-    let k₀ = k.right in let k₁ = k.bottom in let k₂ = k.corner in let k₃ = k.taken in let k₄ = k.posted in
-    record { right = omega arith; bottom = omega arith; corner = omega arith; taken = omega arith; posted = omega arith }
+Within-trans a b c h k = omega arith
 
 pub Within-refl : (a : ℕ) → Within a a
 Within-refl a = record { right = omega arith; bottom = omega arith; corner = omega arith; taken = omega arith; posted = omega arith }
@@ -110,14 +97,7 @@ sees_more ws ws' grows None h = tt
 sees_more ws ws' grows (Some x) h = Within-trans x.1 (slice_index ws x.0) (slice_index ws' x.0) h (grows x.0)
 
 pub view_more : (b : Slab) (ws ws' : List ℕ) (count k : ℕ) (v : View) → Grows ws ws' → ViewOk b ws count k v → ViewOk b ws' count k v
-view_more b ws ws' count k v grows o = record {
-  number = o.number;
-  made = o.made;
-  board = o.board;
-  some_part = o.some_part;
-  numbers = o.numbers;
-  sees = sees_more ws ws' grows v.seen o.sees;
-}
+view_more b ws ws' count k v grows o = grind (arith, sees_more)
 
 -- one word gains a bit, and the others are unchanged
 pub grown : (ws : List ℕ) (i x : ℕ) → i < length ws → Within (slice_index ws i) x → Grows ws (set ws i x)
@@ -137,22 +117,7 @@ pub rebuilt : (B : Setting) (s : State Cell View) (r : Ruled B s) (id : ℕ) (v 
     → get_elem? s.views id ≡ some v → length ws ≡ length s.words → length hs ≡ length s.homes → w.parts ≡ v.parts → Grows s.words ws
     → ViewOk B.slab ws (length s.views) id w → ((p : ℕ) → B.graph.tiles ≤ p → lists p w ≡ lists p v) → TilesOk B ws hs (set s.views id w)
     → Ruled B record { words = ws; homes = hs; views = set s.views id w }
-rebuilt B s r id v w ws hs at wide roomy parts grows ok outside tiles =
-    let n = length-set s.views id w in
-    record {
-      wide = wide ∙ r.wide;
-      roomy = roomy ∙ r.roomy;
-      inside = λ p far. total_same (lists p) s.views id v w at (outside p far) ∙ r.inside p far;
-      tiles = tiles;
-      parts = total_same (λ u. u.parts) s.views id v w at parts ∙ r.parts;
-      views = λ k u e. ⊎_elim
-          (λ (x : (k ≡ id) × (w ≡ u)). inr (subst (λ (y : ℕ × View). ViewOk B.slab ws (length (set s.views id w)) y.0 y.1)
-          (λ i. (sym x.0 i, x.1 i)) (subst (λ (c : ℕ). ViewOk B.slab ws c id w) (sym n) ok)))
-          (λ (x : (k ≢ id) × (get_elem? s.views k ≡ some u)). ⊎_elim (λ (z : u ≡ spent). inl z)
-          (λ (z : ViewOk B.slab s.words (length s.views) k u). inr (subst (λ (c : ℕ). ViewOk B.slab ws c k u) (sym n)
-          (view_more B.slab s.words ws (length s.views) k u grows z))) (r.views k u x.1))
-          (at_set s.views id k w u e);
-    }
+rebuilt B s r id v w ws hs at wide roomy parts grows ok outside tiles = grind (arith, at_set, length-set, total_same, view_more)
 
 -- a tile whose word, counts and slots are unchanged
 module _ (B : Setting) (ws ws' : List ℕ) (hs hs' : Row) (L L' P P' : ℕ → ℕ) (S S' : ℕ → ℕ → ℕ) where
@@ -172,19 +137,4 @@ module _ (B : Setting) (ws ws' : List ℕ) (hs hs' : Row) (L L' P P' : ℕ → �
 pub same_counts : (B : Setting) (s : State Cell View) (r : Ruled B s) (vs : List View)
     → ((q : ℕ) → total (lists q) vs ≡ total (lists q) s.views) → ((q d : ℕ) → total (sends q d) vs ≡ total (sends q d) s.views)
     → ((q : ℕ) → total (posts q) vs ≡ total (posts q) s.views) → TilesOk B s.words s.homes vs
-same_counts B s r vs l z m t h =
-    let L : ℕ → ℕ = λ q. total (lists q) s.views in let L' : ℕ → ℕ = λ q. total (lists q) vs in
-    let P : ℕ → ℕ = λ q. total (posts q) s.views in let P' : ℕ → ℕ = λ q. total (posts q) vs in
-    let S : ℕ → ℕ → ℕ = λ q d. total (sends q d) s.views in let S' : ℕ → ℕ → ℕ = λ q d. total (sends q d) vs in
-    let c = r.tiles t h in
-    let a : (d : ℕ) (o : Option ℕ) → arrived (λ q. S' q d) o ≡ arrived (λ q. S q d) o =
-    λ d o. arrived_same B s.words s.words s.homes s.homes L L' P P' S S' d (λ q. z q d) o in
-    let a₀ = a 0 (B.graph.from t 0) in let a₁ = a 1 (B.graph.from t 1) in let a₂ = a 2 (B.graph.from t 2) in
-    let lt = l t in let mt = m t in
-    record {
-      word = let y = c.word in omega arith;
-      once = let y = c.once in omega arith;
-      needs = λ d q e. let y = c.needs d q e in let zz = z q d in omega arith;
-      edges = λ d near. edge_same B s.words s.words s.homes s.homes L L' P P' S S' t d (l t) (m t) (z t d) refl (B.graph.next t d)
-          (λ p _. (l p, m p)) (c.edges d near);
-    }
+same_counts B s r vs l z m t h = grind arith

@@ -36,7 +36,4 @@ counts B k id me t s r wide at _ =
 
 pub parts_added : (b : Slab) (s s' : State Cell View) (id other : ℕ) (v u : View) → Joins b s s' id other v u (joined_view v u) spent
     → ((joined_view v u).parts ≡ v.parts + u.parts) × (v.parts + u.parts ≤ 256)
-parts_added b s s' id other v u j =
-    let few = two_parts s.views id other v u j.at j.there j.apart in
-    let all = j.before.parts in
-    (refl, omega arith)
+parts_added b s s' id other v u j = grind (arith, two_parts)

@@ -1,4 +1,5 @@
 -- The graph of a window's tiles, by their places.
+use Rattle.std.proofs.lemmas.Grind.{common_steps}
 use Rattle.std.proofs.Common.{◌≡◌, ℕ, ◌+◌, ◌-◌, ◌*◌, ◌<◌, ◌&&◌, ltb, refl, sym, ap, ◌∙◌, arith, Some}
 use Rattle.std.proofs.lemmas.Bool.{ltb-true, lt-ltb}
 use Rattle.board_core.specs.Numbers.{number_of}
@@ -33,15 +34,8 @@ receives : (C B : ℕ) (d : Dir) (p q : Place) (t n : ℕ) → At C B p.c p.j t 
 receives C B Right p q t n a b g =
     let row : q.j * C ≡ p.j * C = ap (λ (x : ℕ). x * C) g.1 in let i = a.is in let k = b.is in let l = b.column in let h = g.0 in
     next-at C B p.c p.j t 0 a ∙ only-yes (ltb (p.c + 1) C) (t + 1) n (lt-ltb (p.c + 1) C (omega arith)) (omega arith)
-receives C B Bottom p q t n a b g =
-    let row : q.j * C ≡ p.j * C + C = ap (λ (x : ℕ). x * C) g.1 ∙ row_more C p.j in
-    let i = a.is in let k = b.is in let l = b.column in let m = b.band in let h = g.0 in let h' = g.1 in
-    next-at C B p.c p.j t 1 a ∙ only-yes (ltb 0 p.c && ltb (p.j + 1) B) (t + C - 1) n
-    (and-yes _ _ (lt-ltb 0 p.c (omega arith)) (lt-ltb (p.j + 1) B (omega arith))) (omega arith)
-receives C B Corner p q t n a b g =
-    let row : q.j * C ≡ p.j * C + C = ap (λ (x : ℕ). x * C) g.1 ∙ row_more C p.j in
-    let i = a.is in let k = b.is in let m = b.band in let h = g.0 in let h' = g.1 in
-    next-at C B p.c p.j t 2 a ∙ only-yes (ltb (p.j + 1) B) (t + C) n (lt-ltb (p.j + 1) B (omega arith)) (omega arith)
+receives C B Bottom p q t n a b g = grind (arith, common_steps, and-yes, lt-ltb, next-at, only-yes, row_more)
+receives C B Corner p q t n a b g = grind (arith, common_steps, lt-ltb, next-at, only-yes, row_more)
 
 goes : (C B : ℕ) (d : Dir) (p q : Place) (t n : ℕ) → At C B p.c p.j t → At C B q.c q.j n → next_in C B t (index_of d) ≡ Some n
     → IsReceiver d p q
@@ -66,8 +60,4 @@ gives_next s p q d g = receives (columns_of s) (bands_of s) d p q (number_of s p
 
 pub next_gives : (s : Shape) (p q : Place) (d : Dir) → IsTile s p → IsTile s q
     → (graph_of s).next (number_of s p) (index_of d) ≡ Some (number_of s q) → Gives s p d q
-next_gives s p q d tile tile' e = record {
-  source = tile;
-  receiver = tile';
-  goes = goes (columns_of s) (bands_of s) d p q (number_of s p) (number_of s q) (tile_at s p tile) (tile_at s q tile') e;
-}
+next_gives s p q d tile tile' e = grind (arith, goes, tile_at)

@@ -1,7 +1,7 @@
 -- The fetch-or of 16 keeps the rule.
 use Rattle.std.proofs.Common.{◌≡◌, ◌≢◌, ℕ, zero, suc, ◌+◌, ◌*◌, ◌<◌, ◌≤◌, inl, inr, lit<, lit≤, le_refl, zero-le, List, [], ◌++◌, length}
 use Rattle.std.proofs.Common.{set, refl, sym, ap, ◌∙◌, subst, arith, bit_or, length-set, get_or-set_same, get_or-set_other, Option, Some}
-use Rattle.std.proofs.Common.{None, Bool, true, false, ◌==◌, ◌∷◌, cond, eq-eqb, filter}
+use Rattle.std.proofs.Common.{None, ◌==◌, ◌∷◌, eq-eqb, filter}
 use mathlib.Core.Option.{some}
 use mathlib.Core.Logic.{dite}
 use native.Mathlib.Decide.{ℕ_discrete}
@@ -11,8 +11,8 @@ use Rattle.atomic_table.specs.Table.{State, Me, Allows}
 use Rattle.board_steps.specs.declared.rule.View.{View}
 use Rattle.board_steps.specs.declared.rule.Cell.{Cell}
 use Rattle.board_steps.specs.Graph.{IsGraph}
-use Rattle.board_steps.specs.Rule.{Setting, arrived, one_if, posts, times, sends, lists, total, EdgeIs, TileOk, Ruled}
-use Rattle.board_steps.specs.Steps.{posted_view, posts_of, incoming, own_slot, to_post_in, AllSent, HasPostedOnce, MayPost, Posted}
+use Rattle.board_steps.specs.Rule.{Setting, arrived, posts, times, sends, lists, total, EdgeIs, TileOk, Ruled}
+use Rattle.board_steps.specs.Steps.{posted_view, incoming, own_slot, to_post_in, AllSent, HasPostedOnce, MayPost, Posted}
 use Rattle.board_steps.proofs.Bits.{Bits, or_posted, Within-bits}
 use Rattle.board_steps.proofs.Totals.{total_at, total_same, total_more, total_gap, sends_lists, posts_sends, all_sends_lists}
 use Rattle.board_steps.proofs.Views.{one_same, held_lists, plain_posts, post_lists, post_sends_else, post_sends_sent, post_posts_here}
@@ -292,16 +292,10 @@ unposted B s r id v t near at held =
 
 none_of : (t : ℕ) (l : List (ℕ × ℕ)) → times t l ≡ 0 → filter (λ x. x.0 == t) l ≡ []
 none_of t [] none = refl
-none_of t (x ∷ xs) none = by_first (none_of t xs) (x.0 == t) refl
-  where
-    by_first : (times t xs ≡ 0 → filter (λ y. y.0 == t) xs ≡ []) → (b : Bool) → (x.0 == t) ≡ b → cond b (x ∷ filter (λ y. y.0 == t) xs) (filter (λ y. y.0 == t) xs) ≡ []
-    by_first rest true e = let one : one_if (x.0 == t) ≡ 1 = ap one_if e in absurd (omega arith)
-    by_first rest false e = rest (omega arith)
+none_of t (x ∷ xs) none = grind (arith, none_of t xs)
 
 posted_once : (t : ℕ) (v : View) → times t v.mine ≡ 0 → HasPostedOnce t (posted_view v t)
-posted_once t v none =
-    ap (λ (b : Bool). cond b ((t, v.number) ∷ posts_of t v) (posts_of t v)) (eq-eqb t t refl)
-    ∙ ap (λ (l : List (ℕ × ℕ)). (t, v.number) ∷ l) (none_of t v.mine none)
+posted_once t v none = grind (arith, eq-eqb, none_of)
 
 pub posts_step : (B : Setting) (W : IsGraph B.graph) (k id : ℕ) (me : Me Cell View) (t : ℕ) → 1 ≤ me.0.parts → MayPost B me t
     → Allows (Ruled B) k id me t (λ w. bit_or w 16) (λ _ n. Posted t me n)

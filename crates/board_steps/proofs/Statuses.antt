@@ -1,5 +1,5 @@
 -- What the views say of a tile's status.
-use Rattle.std.proofs.Common.{◌≡◌, ◌≢◌, ℕ, zero, suc, ◌≤◌, eqb, eq-eqb, ne_eqb, cond, Bool, true, false, List, [], ◌∷◌, ◌++◌, length, set}
+use Rattle.std.proofs.Common.{◌≡◌, ◌≢◌, ℕ, zero, suc, ◌≤◌, eqb, eq-eqb, ne_eqb, cond, Bool, false, List, [], ◌∷◌, ◌++◌, length, set}
 use Rattle.std.proofs.Common.{refl, sym, ap, ◌∙◌, arith, length-set, Option, Some, None}
 use mathlib.Core.Option.{some, some-injective, some-ne-none}
 use mathlib.Core.Logic.{dite}
@@ -9,7 +9,7 @@ use Rattle.atomic_table.proofs.Lists.{set_here, set_else}
 use Rattle.board_core.specs.declared.tiles.Status.{Status}
 use Rattle.board_core.specs.declared.tiles.Status.TheVariants.{Waiting, Taken, Posted}
 use Rattle.board_steps.specs.declared.rule.View.{View}
-use Rattle.board_steps.specs.Rule.{one_if, times, is_held, spent, lists, total}
+use Rattle.board_steps.specs.Rule.{times, is_held, spent, lists, total}
 use Rattle.board_steps.specs.Shown.{holds, posted_status, own_status, status}
 use Rattle.board_steps.specs.Steps.{looked, taken, sent_view, posted_view, kept_view, new_view, joined_view}
 use Rattle.board_steps.proofs.Totals.{total_at}
@@ -21,21 +21,11 @@ use Rattle.board_steps.proofs.Wording.{total_two}
 -- a view that does not list the tile says nothing of it
 posted_none : (t : ℕ) (l : List (ℕ × ℕ)) (z : Status) → times t l ≡ 0 → posted_status t l z ≡ z
 posted_none t [] z e = refl
-posted_none t (x ∷ xs) z e = step (eqb x.0 t) refl (posted_none t xs z)
-  where
-    step : (b : Bool) → eqb x.0 t ≡ b → (times t xs ≡ 0 → posted_status t xs z ≡ z)
-        → cond (eqb x.0 t) (Posted x.1) (posted_status t xs z) ≡ z
-    step true f rest = let o : one_if (eqb x.0 t) ≡ 1 = ap one_if f in absurd (omega arith)
-    step false f rest = let o : one_if (eqb x.0 t) ≡ 0 = ap one_if f in
-        ap (λ (b : Bool). cond b (Posted x.1) (posted_status t xs z)) f ∙ rest (omega arith)
+posted_none t (x ∷ xs) z e = grind (arith, posted_none t xs z)
 
 held_none : (t : ℕ) (o : Option ℕ) → is_held t o ≡ 0 → holds t o ≡ false
 held_none t None e = refl
-held_none t (Some q) e = step (eqb q t) refl
-  where
-    step : (b : Bool) → eqb q t ≡ b → eqb q t ≡ false
-    step true f = let o : one_if (eqb q t) ≡ 1 = ap one_if f in absurd (omega arith)
-    step false f = f
+held_none t (Some q) e = grind arith
 
 own_none : (t : ℕ) (v : View) (z : Status) → lists t v ≡ 0 → own_status t v z ≡ z
 unfolding own_status lists
@@ -75,9 +65,7 @@ pub status_only : (t : ℕ) (vs : List View) (id : ℕ) (v : View) → get_elem?
     → status t vs ≡ own_status t v Waiting
 unfolding status total
 status_only t [] id v at few one = absurd (some-ne-none v (sym at))
-status_only t (x ∷ xs) zero v at few one =
-    let e : x ≡ v = some-injective x v at in let f : lists t x ≡ lists t v = ap (lists t) e in
-    ap (own_status t x) (status_none t xs (omega arith)) ∙ ap (λ (u : View). own_status t u Waiting) e
+status_only t (x ∷ xs) zero v at few one = grind (arith, status_none)
 status_only t (x ∷ xs) (suc id) v at few one =
     let m = total_at (lists t) xs id v at in own_none t x (status t xs) (omega arith) ∙ status_only t xs id v at (omega arith) one
 
@@ -110,9 +98,7 @@ posted_own v t z = ap (λ (b : Bool). cond b (Posted v.number) (posted_status t 
 
 pub posted_else : (v : View) (t q : ℕ) → v.held ≡ Some t → q ≢ t → (z : Status) → own_status q (posted_view v t) z ≡ own_status q v z
 unfolding own_status
-posted_else v t q held ne z = let f : eqb t q ≡ false = ne_eqb t q (λ e. ne (sym e)) in
-    ap (λ (b : Bool). cond b (Posted v.number) (posted_status q v.mine z)) f
-    ∙ sym (ap (λ (b : Bool). cond b (Taken v.number) (posted_status q v.mine z)) (ap (holds q) held ∙ f))
+posted_else v t q held ne z = grind arith
 
 pub kept_own : (v : View) (q : ℕ) (z : Status) → own_status q (kept_view v) z ≡ own_status q v z
 unfolding own_status

@@ -1,6 +1,5 @@
 -- What each step tells of the slab that the view names.
 use Rattle.std.proofs.Common.{◌≡◌, ℕ, ◌<◌, ◌≤◌, [], zero, suc, refl, sym, subst, arith, bit_or, None}
-use Rattle.std.specs.Prelude.{slice_index}
 use Rattle.atomic_table.specs.Table.{Me, Allows, carried_after}
 use Rattle.tile_lanes.specs.Done.{window_of}
 use Rattle.tile_shape.specs.declared.tiles.Dir.{Dir}
@@ -23,10 +22,7 @@ lawful b = window_graph (window_of b.rows.value)
 -- the slab of the rule is that of the view
 by_view : (b : Slab) (k id : ℕ) (me : Me Cell View) (t : ℕ) (f : ℕ → ℕ) (then : Slab → ℕ → Me Cell View → Type 0) → 1 ≤ me.0.parts
     → Allows (Ruled (setting_of b)) k id me t f (then b) → Allows (Ruled (setting_of b)) k id me t f (then me.0.board)
-by_view b k id me t f then part step s r wide at few =
-    let o = mine (setting_of b) s r id me.0 at part in
-    let a = step s r wide at few in
-    (a.0, a.1, a.2, a.3, subst (λ (c : Slab). then c (slice_index s.words t) (a.0, carried_after me.1 a.1)) (sym o.board) a.4)
+by_view b k id me t f then part step s r wide at few = grind (arith, mine)
 
 pub look_told : (b : Slab) (k id : ℕ) (me : Me Cell View) (t : ℕ) → t < (setting_of b).graph.tiles → 1 ≤ me.0.parts
     → Allows (Ruled (setting_of b)) k id me t (λ x. x) (λ r n. Looked me.0.board t me r n)

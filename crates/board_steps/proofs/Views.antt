@@ -115,24 +115,16 @@ post_sends v p q d = let a = idle_sends (posted_view v p) refl q d in
     let b : times q (posted_view v p).mine ≡ one_if (eqb p q) + times q v.mine = refl in omega arith
 
 pub post_sends_else : (v : View) (p q d : ℕ) → v.held ≡ Some p → q ≢ p → sends q d (posted_view v p) ≡ sends q d v
-post_sends_else v p q d held n = else (has d v.sent) refl
-  where
-    else : (b : Bool) → has d v.sent ≡ b → sends q d (posted_view v p) ≡ sends q d v
-    else false e = let x = unsent_sends v d e q in let a = post_sends v p q d in let c = one_other p q n in omega arith
-    else true e = let x = sent_sends v p d held e q in let a = post_sends v p q d in omega arith
+post_sends_else v p q d held n = grind (arith, one_other, post_sends, sent_sends, unsent_sends)
 
 pub post_sends_sent : (v : View) (p d : ℕ) → v.held ≡ Some p → has d v.sent ≡ true → sends p d (posted_view v p) ≡ sends p d v
 post_sends_sent v p d held e = let x = sent_sends v p d held e p in let a = post_sends v p p d in omega arith
 
 pub post_posts_here : (v : View) (p : ℕ) → posts p (posted_view v p) ≡ posts p v + 1
-post_posts_here v p = let a = plain_posts p (posted_view v p) in
-    let b : times p (posted_view v p).mine ≡ one_if (eqb p p) + times p v.mine = refl in let c = plain_posts p v in
-    let d = one_same p in omega arith
+post_posts_here v p = grind (arith, one_same, plain_posts)
 
 pub post_posts_else : (v : View) (p q : ℕ) → q ≢ p → posts q (posted_view v p) ≡ posts q v
-post_posts_else v p q n = let a = plain_posts q (posted_view v p) in
-    let b : times q (posted_view v p).mine ≡ one_if (eqb p q) + times q v.mine = refl in let c = plain_posts q v in
-    let d = one_other p q n in omega arith
+post_posts_else v p q n = grind (arith, one_other, plain_posts)
 
 pub cut_lists : (v : View) (p : ℕ) → lists p (kept_view v) + lists p (new_view v) ≡ lists p v
 unfolding lists
@@ -165,10 +157,7 @@ joined_lists v u idle p = let a = times-append p v.mine u.mine in let e : is_hel
 
 pub joined_sends : (v u : View) → u.held ≡ None → (p d : ℕ) → sends p d (joined_view v u) ≡ sends p d v + sends p d u
 unfolding sends
-joined_sends v u idle p d =
-    let a = times-append p v.mine u.mine in
-    let e : is_sent p u.held (has d u.sent) ≡ 0 = ap (λ (o : Option ℕ). is_sent p o (has d u.sent)) idle ∙ unsent p (has d u.sent) in
-    omega arith
+joined_sends v u idle p d = grind (arith, times-append, unsent)
 
 pub joined_posts : (v u : View) (p : ℕ) → posts p (joined_view v u) ≡ posts p v + posts p u
 unfolding posts

@@ -1,6 +1,6 @@
 -- The rule implies its clauses in plain words.
-use Rattle.std.proofs.Common.{◌≡◌, ◌≢◌, ℕ, zero, suc, ◌+◌, ◌*◌, ◌/◌, ◌%◌, ◌<◌, ◌≤◌, ◌⊎◌, inl, inr, ⊎_elim, true, List, [], ◌∷◌, length}
-use Rattle.std.proofs.Common.{refl, sym, ap, ◌∙◌, subst, arith, Option, Some, None, Bool, false}
+use Rattle.std.proofs.Common.{◌≡◌, ◌≢◌, ℕ, zero, suc, ◌+◌, ◌*◌, ◌/◌, ◌%◌, ◌<◌, ◌≤◌, ◌⊎◌, inl, inr, ⊎_elim, List, [], ◌∷◌, length}
+use Rattle.std.proofs.Common.{refl, sym, ap, ◌∙◌, subst, arith, Option, Some, None}
 use mathlib.Core.Option.{some, some-injective, some-ne-none}
 use mathlib.Core.Logic.{dite}
 use native.Mathlib.Decide.{ℕ_discrete}
@@ -76,14 +76,7 @@ sends_of v t d (inr h) = omega arith
 
 of_sends : (v : View) (t d : ℕ) → 1 ≤ sends t d v → HasSent v t d
 unfolding sends
-of_sends v t d h = by (has d v.sent) refl
-  where
-    by : (b : Bool) → has d v.sent ≡ b → HasSent v t d
-    by true e = let z : is_sent t v.held (has d v.sent) ≡ is_held t v.held = ap (is_sent t v.held) e in dite (ℕ_discrete
-        (is_held t v.held) 0)
-        (λ (n : is_held t v.held ≡ 0). inr (omega arith))
-        (λ n. inl (one_held t v.held (omega arith), e))
-    by false e = let z : is_sent t v.held (has d v.sent) ≡ 0 = ap (is_sent t v.held) e in inr (omega arith)
+of_sends v t d h = grind (arith, one_held)
 
 -- ---- the clauses
 

@@ -1,6 +1,6 @@
 -- What the machine makes of the inks of a stroke.
 use Rattle.std.proofs.Common.{◌≡◌, ℕ, ◌+◌, ◌-◌, ◌*◌, ◌/◌, ◌%◌, ◌<◌, ◌≤◌, Bool, true, false, not, ◌||◌, ◌==◌, nat_lt, nat_le, if◌then◌else◌}
-use Rattle.std.proofs.Common.{List, [], ◌∷◌, ◌++◌, Option, None, refl, sym, ◌∙◌, ap, arith, append_assoc, flat_map}
+use Rattle.std.proofs.Common.{List, [], ◌∷◌, ◌++◌, Option, None, refl, ◌∙◌, ap, arith, append_assoc, flat_map}
 use Rattle.std.specs.List.{list_any}
 use Rattle.std.proofs.lemmas.Bool.{eq-eqb, le-ltb}
 use Rattle.printer_definitions.specs.declared.inks.Ink.{Ink}
@@ -48,12 +48,7 @@ fires_ink w stroke ink = ink_commands w.printer w.halftone.width w.coding.c stro
 new-dots : (w : Layout) (stroke : Stroke) (ink : Ink) → IsLayout w → Lies w stroke
     → rows_dots w.printer.nozzles (header_of w) ink 0 (first_of w * 5 + stroke.start * row_units w.printer * 5)
     (flat_map packed (stroke.rows ink)) ≡ ink_fired w stroke ink
-new-dots w stroke ink is lies =
-    let y : ℕ = first_of w * 5 + stroke.start * row_units w.printer * 5 in
-    let rows : List (List Bool) = stroke.rows ink in
-    ap (λ m. rows_dots m (header_of w) ink 0 y (flat_map packed rows)) (sym (lies.whole ink).many)
-    ∙ rows_dots-fired (header_of w) ink y rows (lies.whole ink).wide
-    ∙ rows-are w.printer w.above w.halftone.height ink stroke.start y rows is.can is.room (lies.on_window ink) (place-is w stroke.start is)
+new-dots w stroke ink is lies = grind (arith, first_of, header_of, place-is, rows-are, rows_dots-fired)
 
 -- what is false of each is false of both
 neither : (a b : Bool) → a ≡ false → b ≡ false → (a || b) ≡ false

@@ -52,10 +52,4 @@ other-any false (false ∷ row) e = other-any true row e
 
 -- every other dot of a row is not at both even and odd columns
 pub other-half : (i : ℕ) (first : Bool) (row : List Bool) → FiresHalf i (λ x. at (every_other first row) x)
-other-half i first row x y on_x on_y =
-    same first (and_parts (kept first x) (at row x) (sym (at-other first row x) ∙ on_x)).0
-    (and_parts (kept first y) (at row y) (sym (at-other first row y) ∙ on_y)).0
-  where
-    same : (b : Bool) → kept b x ≡ true → kept b y ≡ true → x % 2 ≡ y % 2
-    same true p q = kept-even x p ∙ sym (kept-even y q)
-    same false p q = kept-odd x p ∙ sym (kept-odd y q)
+other-half i first row x y on_x on_y = grind (arith, and_parts, at-other, kept, kept-even, kept-odd)

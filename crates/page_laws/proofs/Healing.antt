@@ -1,6 +1,6 @@
 -- The strokes of a head with dead nozzles print the halftone of their window.
-use Rattle.std.proofs.Common.{◌≡◌, ℕ, zero, suc, ◌+◌, ◌-◌, ◌*◌, ◌<◌, ◌≤◌, Bool, true, false, cond, not, ◌&&◌, ◌==◌}
-use Rattle.std.proofs.Common.{List, [], ◌∷◌, map, replicate, Option, None, Some, Ok, refl, sym, ◌∙◌, ap, arith, subst}
+use Rattle.std.proofs.Common.{◌≡◌, ℕ, zero, suc, ◌+◌, ◌-◌, ◌*◌, ◌<◌, ◌≤◌, Bool, true, cond, not, ◌&&◌, ◌==◌}
+use Rattle.std.proofs.Common.{List, [], ◌∷◌, map, Option, None, Some, Ok, refl, sym, ◌∙◌, ap, arith, subst}
 use Rattle.std.specs.List.{AllByRecursion, count_by, flat_map, list_any}
 use Rattle.std.specs.Prelude.{slice_index_or}
 use Rattle.std.proofs.lemmas.Bool.{and_right, eqb-true, lt-ltb}
@@ -25,7 +25,7 @@ use Rattle.escp2_definitions.specs.Rasters.{ink_rasters}
 use Rattle.separation_definitions.specs.CanPrint.{CanPrint}
 use Rattle.page_definitions.specs.Dots.{Halftone}
 use Rattle.page_definitions.specs.Healed.{IsSpared, healed, healed_bytes, healed_passes, healed_stroke, shot_rows, worn_head}
-use Rattle.page_definitions.specs.PageBytes.{dot_row, fired_row, page_coding}
+use Rattle.page_definitions.specs.PageBytes.{fired_row, page_coding}
 use Rattle.page_definitions.specs.RasterRows.{RasterRows, StrokeRows}
 use Rattle.page_definitions.specs.Strokes.{Fires, IsOnWindow, IsRising, IsWhole, Stroke}
 use Rattle.page_laws.specs.Sized.{Sized}
@@ -55,48 +55,8 @@ nozzle-hits : (dead : List ℕ) (p : Printer) (h : Halftone) (wanted : ℕ → B
     ≡ cond (h.dot ink y x) (count_by (of_row y)
     (shot (worn_head dead p h.height) wanted i (row_under (worn_head dead p h.height) start i))) 0
 unfolding of_row
-nozzle-hits dead p h wanted ink y x start i low = by_row (row_under head start i) refl
-  where
-    head : Head
-    head = worn_head dead p h.height
-
-    place : ℕ
-    place = start + i * p.pitch - head_rows p
-
-    one_if : Bool → ℕ
-    one_if b = cond b 1 0
-
-    none : one_if ((place == y) && at (replicate h.width false) x) ≡ 0
-    none = ap one_if (and_right (place == y) (at (replicate h.width false) x) (no-dot h.width x))
-
-    by_same : (row : ℕ) (b : Bool) → (row == y) ≡ b → one_if ((row == y) && h.dot ink row x) ≡ cond (h.dot ink y x) (one_if (row == y) + 0) 0
-    by_same row true e =
-        ap (λ b. one_if (b && h.dot ink row x)) e ∙ ap (λ k. one_if (h.dot ink k x)) (eqb-true row y e)
-        ∙ sym (ap (λ b. cond (h.dot ink y x) (one_if b + 0) 0) e)
-    by_same row false e =
-        ap (λ b. one_if (b && h.dot ink row x)) e
-        ∙ sym (ap (λ b. cond (h.dot ink y x) (one_if b + 0) 0) e ∙ if-none (h.dot ink y x) 0 refl)
-
-    by_test : (row : ℕ) (b : Bool) → row_under head start i ≡ Some row
-        → one_if ((place == y) && at (fired_row h ink (cond b (Some row) None)) x)
-        ≡ cond (h.dot ink y x) (count_by (of_row y) (cond b (record { nozzle = i; row = row } ∷ []) [])) 0
-    by_test row true e =
-        let o : Over head start i row = over head start i row e in
-        let stands : place ≡ row = omega (arith, o.place) in
-        let column : 0 + x ≡ x = omega arith in
-        let dot : at (dot_row h ink row) x ≡ h.dot ink row x = at-counted (h.dot ink row) 0 h.width x low ∙ ap (h.dot ink row) column in
-        let one : Shot = record { nozzle = i; row = row } in
-        ap (λ n. one_if ((n == y) && at (dot_row h ink row) x)) stands
-        ∙ ap (λ b. one_if ((row == y) && b)) dot
-        ∙ by_same row (row == y) refl
-        ∙ sym (ap (λ n. cond (h.dot ink y x) n 0) (count-cons (of_row y) one []))
-    by_test row false e = none ∙ sym (if-none (h.dot ink y x) 0 refl)
-
-    by_row : (r : Option ℕ) → row_under head start i ≡ r
-        → one_if ((place == y) && at (fired_row h ink (wanted_row head wanted i r)) x)
-        ≡ cond (h.dot ink y x) (count_by (of_row y) (shot head wanted i r)) 0
-    by_row None e = none ∙ sym (if-none (h.dot ink y x) 0 refl)
-    by_row (Some row) e = by_test row (not (has dead i) && wanted row) e
+nozzle-hits dead p h wanted ink y x start i low =
+    grind (arith, Over, and_right, at-counted, count-cons, eqb-true, if-none, no-dot, of_row, over, wanted_row)
 
 -- the nozzles of a stroke
 nozzles-hit : (dead : List ℕ) (p : Printer) (h : Halftone) (wanted : ℕ → Bool) (ink : Ink) (y x start from i many : ℕ)
@@ -183,17 +143,12 @@ rows-wide h shots ink [] = tt
 rows-wide h shots ink (i ∷ is) = (fired_row-len h ink (row_of shots i), rows-wide h shots ink is)
 
 stroke-whole : (p : Printer) (h : Halftone) (s : HeadStroke) (ink : Ink) → IsWhole p.nozzles h.width ((healed_stroke p h s).rows ink)
-stroke-whole p h s ink = record {
-  many = length-map (count_from 0 p.nozzles) (row_by h s.shots ink) ∙ count_from-len 0 p.nozzles;
-  wide = rows-wide h s.shots ink (count_from 0 p.nozzles);
-}
+stroke-whole p h s ink = grind (arith, count_from-len, length-map, row_by, rows-wide)
 
 -- the row at a nozzle's place is the nozzle's
 nozzle-row : (p : Printer) (h : Halftone) (s : HeadStroke) (ink : Ink) (i : ℕ) → i < p.nozzles
     → slice_index_or ((healed_stroke p h s).rows ink) i [] ≡ row_by h s.shots ink i
-nozzle-row p h s ink i few =
-    let place : 0 + i ≡ i = omega arith in
-    counted-row (row_by h s.shots ink) 0 p.nozzles i few ∙ ap (row_by h s.shots ink) place
+nozzle-row p h s ink i few = grind (arith, counted-row, row_by)
 
 stroke-on_window : (dead : List ℕ) (p : Printer) (h : Halftone) (s : HeadStroke) → IsStrokeAt (worn_head dead p h.height) s → (ink : Ink)
     → IsOnWindow p.pitch (head_rows p) h.height s.start ((healed_stroke p h s).rows ink)

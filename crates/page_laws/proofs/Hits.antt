@@ -59,10 +59,7 @@ strokes-total : (p : Printer) (d : Dot) (above height width : ℕ) (strokes : Li
     → AllByRecursion (λ stroke. (ink : Ink) → IsOnWindow p.pitch above height stroke.start (stroke.rows ink)) strokes
     → count_by (is_at d) (flat_map (stroke_fired p above) strokes)
     ≡ sum_by (λ ink. total (λ y x. is_at d (place_of p ink y x)) height width (λ y x. hits p above strokes ink y x)) (inks_of p.inks)
-strokes-total p d above height width [] whole on =
-    sym (sum-none (λ ink. total (λ y x. is_at d (place_of p ink y x)) height width (λ y x. 0)) (inks_of p.inks)
-    (each-of (λ ink. total (λ y x. is_at d (place_of p ink y x)) height width (λ y x. 0) ≡ 0) (inks_of p.inks)
-    (λ ink. total-none (λ y x. is_at d (place_of p ink y x)) height width (λ y x. 0) (λ y x. refl))))
+strokes-total p d above height width [] whole on = simp (each-of, sum-none, total, total-none)
 strokes-total p d above height width (stroke ∷ strokes) whole on =
     let of : Ink → (ℕ → ℕ → ℕ) → ℕ = λ ink. total (λ y x. is_at d (place_of p ink y x)) height width in
     let now : Ink → ℕ → ℕ → ℕ = λ ink y x. rows_hits p.pitch above y x stroke.start (stroke.rows ink) in

@@ -1,5 +1,5 @@
 -- The state that a job leaves the machine in.
-use Rattle.std.proofs.Common.{◌≡◌, ℕ, ◌+◌, true, nat_lt, if◌then◌else◌, List, [], ◌∷◌, ◌++◌, length, Option, None, Some, refl, sym, ◌∙◌, ap, arith}
+use Rattle.std.proofs.Common.{◌≡◌, ℕ, ◌+◌, nat_lt, if◌then◌else◌, List, [], ◌∷◌, ◌++◌, length, Option, None, Some, refl, sym, ◌∙◌, ap, arith}
 use Rattle.std.proofs.lemmas.Bool.{lt-ltb}
 use Rattle.printer_definitions.specs.Printer.{Printer}
 use Rattle.escp2_definitions.specs.declared.command.Command.TheVariants as c
@@ -21,14 +21,7 @@ outcome p m entry rest None = with_sheets (given p m entry.command) (execute_fro
 head-accepted : (p : Printer) (m : Machine) (entry : Entry) (rest : List Entry) → (execute_from p m (entry ∷ rest)).refused ≡ None
     → first_fault (refusals p m entry.command entry.rows) ≡ None
 unfolding execute_from
-head-accepted p m entry rest none = by_fault (first_fault (refusals p m entry.command entry.rows)) refl
-  where
-    by_fault : (o : Option EmulatorFault) → first_fault (refusals p m entry.command entry.rows) ≡ o
-        → first_fault (refusals p m entry.command entry.rows) ≡ None
-    by_fault None is = is
-    by_fault (Some fault) is =
-        absurd (let no : (outcome p m entry rest (Some fault)).refused ≡ None =
-        sym (ap (λ o. (outcome p m entry rest o).refused) is) ∙ none in cc)
+head-accepted p m entry rest none = grind (arith, outcome)
 
 -- and those after it are accepted too
 tail-accepted : (p : Printer) (m : Machine) (entry : Entry) (rest : List Entry) → (execute_from p m (entry ∷ rest)).refused ≡ None
@@ -49,16 +42,12 @@ last-accepted p m (first ∷ before) entry none =
 last-entry : (code : List ℕ → List ℕ) (at : ℕ) (job : List Spoken) (s : Spoken)
     → (at' : ℕ) × (entries code at (job ++ s ∷ []) ≡ entries code at job ++ record { at = at'; command = s.command; rows = s.rows } ∷ [])
 last-entry code at [] s = (at, refl)
-last-entry code at (first ∷ job) s =
-    let rest = last-entry code (at + length (written code first.command first.rows)) job s in
-    (rest.0, ap (λ es. record { at = at; command = first.command; rows = first.rows } ∷ es) rest.1)
+last-entry code at (first ∷ job) s = grind (arith, last-entry code (at + length (written code first.command first.rows)) job s)
 
 -- a reset is refused where there is a dot
 no-dot : (dots : List Dot) → (if nat_lt 0 (length dots) then Some Backward else None) ≡ None → dots ≡ []
 no-dot [] none = refl
-no-dot (d ∷ dots) none =
-    absurd (let some : nat_lt 0 (length (d ∷ dots)) ≡ true = lt-ltb 0 (length (d ∷ dots)) (omega arith) in
-    let no : Some Backward ≡ None = sym (ap (λ b. if b then Some Backward else None) some) ∙ none in cc)
+no-dot (d ∷ dots) none = grind (arith, lt-ltb)
 
 -- Where a job is accepted with a reset after it, it leaves no dot on the sheet.
 pub leaves-none : (p : Printer) (m : Machine) (code : List ℕ → List ℕ) (job : List Spoken)

@@ -1,5 +1,5 @@
 -- How long the bytes of strokes are.
-use Rattle.std.proofs.Common.{◌≡◌, ℕ, zero, suc, ◌+◌, ◌-◌, ◌*◌, ◌/◌, ◌≤◌, Bool, true, false, cond, ◌==◌, if◌then◌else◌, List, [], ◌∷◌, ◌++◌}
+use Rattle.std.proofs.Common.{◌≡◌, ℕ, zero, suc, ◌+◌, ◌-◌, ◌*◌, ◌/◌, ◌≤◌, Bool, true, false, ◌==◌, if◌then◌else◌, List, [], ◌∷◌, ◌++◌}
 use Rattle.std.proofs.Common.{length, take, drop, ◌∙◌, ap, arith, length-append, length-drop, filter, flat_map}
 use Rattle.std.specs.List.{AllByRecursion}
 use Rattle.std.proofs.lemmas.List.{length-map, length-take-le}
@@ -7,15 +7,14 @@ use Rattle.std.proofs.lemmas.List.Sums.{count_by-le-length, length-filter}
 use Rattle.std.proofs.Math.Nat.{mul-le-mul_right}
 use Rattle.printer_definitions.specs.declared.inks.Ink.{Ink}
 use Rattle.printer_definitions.specs.Inks.{inks_of}
-use Rattle.printer_definitions.specs.Printer.{Printer, row_units}
+use Rattle.printer_definitions.specs.Printer.{Printer}
 use Rattle.escp2_definitions.specs.declared.command.Command.TheVariants as c
-use Rattle.base_definitions.specs.Packed.{packed}
-use Rattle.escp2_definitions.specs.Written.{Coding, rows_apart, written_rows}
+use Rattle.escp2_definitions.specs.Written.{Coding, rows_apart}
 use Rattle.escp2_laws.proofs.Least.{least-short}
 use Rattle.page_definitions.specs.Dots.{Halftone}
 use Rattle.page_definitions.specs.PageBytes.{halftone_bytes, page_coding, pass_stroke, weave}
-use Rattle.page_definitions.specs.Strokes.{IsWhole, Spoken, Stroke, Strokes, bytes_of, down_by, fires, has_dot, ink_commands, inks_commands}
-use Rattle.page_definitions.specs.Strokes.{prologue, raster_header, say, strokes_bytes, strokes_commands}
+use Rattle.page_definitions.specs.Strokes.{IsWhole, Spoken, Stroke, Strokes, bytes_of, down_by, ink_commands}
+use Rattle.page_definitions.specs.Strokes.{strokes_bytes, strokes_commands}
 use Rattle.base_definitions.specs.Counting.{count_from}
 use Rattle.weave_definitions.specs.Weave.{pass_count}
 use Rattle.page_laws.proofs.Spelled.{rows-len}
@@ -63,24 +62,7 @@ most_stroke p width = 7 + length (inks_of p.inks) * most_ink p width
 ink-short : (code : List ℕ → List ℕ) (p : Printer) (width coded : ℕ) (stroke : Stroke) (ink : Ink)
     → IsShortCode code → IsWhole p.nozzles width (stroke.rows ink)
     → length (bytes_of code (ink_commands p width coded stroke ink)) ≤ most_ink p width
-ink-short code p width coded stroke ink short whole = by_dot (has_dot (stroke.rows ink))
-  where
-    rows : List ℕ
-    rows = flat_map packed (stroke.rows ink)
-
-    raster : Spoken
-    raster = record { command = c.Raster (raster_header p width coded); rows = rows }
-
-    bytes : ℕ
-    bytes = (width + 7) / 8
-
-    by_dot : (b : Bool) → length (bytes_of code (if b then say (c.Colour ink) ∷ say c.Return ∷ raster ∷ [] else [])) ≤ most_ink p width
-    by_dot false = omega arith
-    by_dot true =
-        let text : List ℕ = written_rows code (c.Raster (raster_header p width coded)) rows in
-        let fits : length rows ≡ p.nozzles * bytes = rows-len width (stroke.rows ink) whole.wide ∙ ap (λ n. n * bytes) whole.many in
-        let few : length text ≤ 2 * (p.nozzles * bytes) = rows-short code (coded == 0) p.nozzles bytes rows short fits in
-        omega (arith, few, length-append text [])
+ink-short code p width coded stroke ink short whole = grind (arith, length-append, most_ink, rows-len, rows-short)
 
 -- the bytes of the inks of a stroke
 inks-short : (code : List ℕ → List ℕ) (p : Printer) (width coded : ℕ) (stroke : Stroke) (inks : List Ink) → IsShortCode code
@@ -111,30 +93,12 @@ strokes-short : (code : List ℕ → List ℕ) (p : Printer) (width coded last :
     → length (bytes_of code (strokes_commands p width coded last strokes)) ≤ length strokes * most_stroke p width
 strokes-short code p width coded last [] short whole = omega arith
 strokes-short code p width coded last (stroke ∷ strokes) short whole =
-    let down : List Spoken = down_by ((stroke.start - last) * row_units p) in
-    let inks : List Spoken = inks_commands p width coded stroke in
-    let later : List Spoken = strokes_commands p width coded stroke.start strokes in
-    let split : suc (length strokes) * most_stroke p width ≡ most_stroke p width + length strokes * most_stroke p width = omega arith in
-    omega (
-      arith,
-      split,
-      ap length (bytes-append code down (inks ++ later)),
-      length-append (bytes_of code down) (bytes_of code (inks ++ later)),
-      ap length (bytes-append code inks later),
-      length-append (bytes_of code inks) (bytes_of code later),
-      down-short code ((stroke.start - last) * row_units p),
-      inks-short code p width coded stroke (inks_of p.inks) short whole.0,
-      strokes-short code p width coded stroke.start strokes short whole.1,
-    )
+    grind (arith, bytes-append, down-short, inks-short, length-append, most_stroke, strokes-short code p width coded stroke.start strokes short whole.1)
 
 -- strokes that are left out make the job no longer
 filter-whole : {X : Type 0} (P : X → Type 0) (test : X → Bool) (xs : List X) → AllByRecursion P xs → AllByRecursion P (filter test xs)
 filter-whole P test [] all = tt
-filter-whole {X = X} P test (x ∷ xs) all = by_head (test x) (filter-whole P test xs all.1)
-  where
-    by_head : (b : Bool) → AllByRecursion P (filter test xs) → AllByRecursion P (cond b (x ∷ filter test xs) (filter test xs))
-    by_head true rest = (all.0, rest)
-    by_head false rest = rest
+filter-whole {X = X} P test (x ∷ xs) all = grind (arith, filter-whole P test xs all.1)
 
 -- Strokes of whole rows, by a code that gives at most twice the bytes of its row, make a job of at most this many
 -- bytes.
@@ -142,25 +106,7 @@ pub bytes-short : (coding : Coding) (p : Printer) (width height len : ℕ) (stro
     → AllByRecursion (λ stroke. (ink : Ink) → IsWhole p.nozzles width (stroke.rows ink)) strokes.list
     → length (strokes_bytes coding p width height len strokes) ≤ 49 + length strokes.list * most_stroke p width
 bytes-short coding p width height len strokes short whole =
-    let code : List ℕ → List ℕ = coding.code in
-    let first : List Spoken = prologue p strokes.above height len in
-    let fired : List Stroke = filter (fires p) strokes.list in
-    let middle : List Spoken = strokes_commands p width coding.c 0 fired in
-    let last : List Spoken = say c.Eject ∷ say c.Init ∷ [] in
-    let few : length fired * most_stroke p width ≤ length strokes.list * most_stroke p width =
-    mul-le-mul_right (most_stroke p width)
-    (omega (arith, length-filter (fires p) strokes.list, count_by-le-length (fires p) strokes.list)) in
-    let all : AllByRecursion (λ stroke. (ink : Ink) → IsWhole p.nozzles width (stroke.rows ink)) fired =
-    filter-whole (λ (stroke : Stroke). (ink : Ink) → IsWhole p.nozzles width (stroke.rows ink)) (fires p) strokes.list whole in
-    omega (
-      arith,
-      few,
-      ap length (bytes-append code first (middle ++ last)),
-      length-append (bytes_of code first) (bytes_of code (middle ++ last)),
-      ap length (bytes-append code middle last),
-      length-append (bytes_of code middle) (bytes_of code last),
-      strokes-short code p width coding.c 0 fired short all,
-    )
+    grind (arith, bytes-append, count_by-le-length, filter-whole, length-append, length-filter, most_stroke, mul-le-mul_right, strokes-short)
 
 -- The bytes of a halftone's passes.
 pub halftone-short : (p : Printer) (h : Halftone) (len : ℕ)

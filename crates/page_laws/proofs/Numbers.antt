@@ -13,12 +13,8 @@ use Rattle.weave_definitions.specs.Weave.{pass_count}
 
 -- a place on paper is a whole number of steps
 places : (dpi n : ℕ) → (dpi ≡ 360) ⊎ (dpi ≡ 720) → n * 3600 / dpi ≡ n * (3600 / dpi)
-places dpi n (inl e) =
-    let at : n * 3600 / 360 ≡ n * (3600 / 360) = omega arith in
-    ap (λ d. n * 3600 / d) e ∙ at ∙ sym (ap (λ d. n * (3600 / d)) e)
-places dpi n (inr e) =
-    let at : n * 3600 / 720 ≡ n * (3600 / 720) = omega arith in
-    ap (λ d. n * 3600 / d) e ∙ at ∙ sym (ap (λ d. n * (3600 / d)) e)
+places dpi n (inl e) = grind arith
+places dpi n (inr e) = grind arith
 
 -- a step is at least 1
 steps : (dpi : ℕ) → (dpi ≡ 360) ⊎ (dpi ≡ 720) → 1 ≤ 3600 / dpi
@@ -32,16 +28,8 @@ units dpi (inr e) = ap (λ d. 720 / d * 5) e ∙ sym (ap (λ d. 3600 / d) e)
 
 -- a page of the greatest height is 22 inches long
 longest : (dpi n : ℕ) → (dpi ≡ 360) ⊎ (dpi ≡ 720) → n ≤ 15840 * dpi / 720 → n * (720 / dpi) ≤ 15840
-longest dpi n (inl e) h =
-    let P : ℕ → Type 0 = λ d. n ≤ 15840 * d / 720 in
-    let Q : ℕ → Type 0 = λ d. n * (720 / d) ≤ 15840 in
-    let low : n ≤ 15840 * 360 / 720 = subst P e h in
-    subst Q (sym e) (omega arith)
-longest dpi n (inr e) h =
-    let P : ℕ → Type 0 = λ d. n ≤ 15840 * d / 720 in
-    let Q : ℕ → Type 0 = λ d. n * (720 / d) ≤ 15840 in
-    let low : n ≤ 15840 * 720 / 720 = subst P e h in
-    subst Q (sym e) (omega arith)
+longest dpi n (inl e) h = grind arith
+longest dpi n (inr e) h = grind arith
 
 -- What follows for a printer.
 pub row_place : (p : Printer) (n : ℕ) → CanPrint p → n * 3600 / p.vdpi ≡ n * row_step p
@@ -70,9 +58,7 @@ pub nozzle_step-is : (p : Printer) → CanPrint p → nozzle_step p ≡ p.pitch 
 nozzle_step-is p c = row_place p p.pitch c
 
 pub nozzle_step-some : (p : Printer) → CanPrint p → 1 ≤ nozzle_step p
-nozzle_step-some p c =
-    let product : 1 * row_step p ≤ p.pitch * row_step p = mul-le-mul_right (row_step p) c.some_pitch in
-    omega (arith, nozzle_step-is p c, row_step-some p c)
+nozzle_step-some p c = grind (arith, mul-le-mul_right, nozzle_step-is, row_step-some)
 
 -- a page of the greatest height is 22 inches long
 pub sheet-longest : (p : Printer) (n : ℕ) → CanPrint p → n ≤ 15840 * p.vdpi / 720 → n * row_units p ≤ 15840
@@ -80,9 +66,7 @@ sheet-longest p n c h = longest p.vdpi n c.down h
 
 -- whole steps are on the grid
 pub on_grid : (n step : ℕ) → 1 ≤ step → (n * step) % step ≡ 0
-on_grid n step some =
-    let same : n * step + 0 ≡ n * step = omega arith in
-    ap (λ m. m % step) (sym same) ∙ mod-mul-add n step 0 (omega arith)
+on_grid n step some = grind (arith, mod-mul-add)
 
 -- rows and columns are in their order
 pub rises : (a b step : ℕ) → 1 ≤ step → a < b → a * step < b * step
@@ -94,43 +78,23 @@ rises a b step some less =
 -- the sheet's length in units
 pub length-fits : (p : Printer) (h : Halftone) (tall : ℕ)
     → CanPrint p → Sized p h tall → (1 ≤ tall * row_units p) × (tall * row_units p ≤ 32767)
-length-fits p h tall can size =
-    let some : 1 ≤ tall = omega (arith, size.some_height, size.low) in
-    let rows : 1 * 1 ≤ tall * row_units p = mul-le-mul some (row_units-some p can) in
-    (omega (arith, rows), omega (arith, size.short))
+length-fits p h tall can size = grind (arith, mul-le-mul, row_units-some)
 
 -- the margins of a window are in their order, and on the sheet
 pub margins-fit : (p : Printer) (h : Halftone) (above tall : ℕ) → CanPrint p → Sized p h tall
     → ((p.top - above) * row_units p < (p.top + h.height) * row_units p) × ((p.top + h.height) * row_units p ≤ 15840)
-margins-fit p h above tall can size =
-    let on_sheet : (p.top + h.height) * row_units p ≤ tall * row_units p = mul-le-mul_right (row_units p) size.low in (
-      rises (p.top - above) (p.top + h.height) (row_units p) (row_units-some p can) (omega (arith, size.some_height)),
-      omega (arith, on_sheet, size.short),
-    )
+margins-fit p h above tall can size = grind (arith, mul-le-mul_right, rises, row_units-some)
 
 -- a step down from one row to another above the window's end is no longer than the sheet
 pub step-fits : (p : Printer) (h : Halftone) (above tall last row : ℕ) → Sized p h tall → above ≤ p.top → row < above + h.height
     → (row - last) * row_units p ≤ 15840
-step-fits p h above tall last row size room low =
-    let on_sheet : (row - last) * row_units p ≤ tall * row_units p = mul-le-mul_right (row_units p) (omega (arith, room, size.low)) in
-    omega (arith, on_sheet, size.short)
+step-fits p h above tall last row size room low = grind (arith, mul-le-mul_right)
 
 -- the window of a page that the printer takes has a size that can be printed
 pub form-sized : (p : Printer) (h : Halftone) (form : PageForm) → CanPrint p → IsWanted (wanted_by p) form
     → h.width ≡ (window_of form p).width → h.height ≡ (window_of form p).height → Sized p h form.height
-form-sized p h form can is width height = record {
-  some_width = omega (arith, width, is.least_width);
-  most_width = omega (arith, width, is.most_width);
-  some_height = omega (arith, height, is.least_height);
-  low = omega (arith, height, is.least_height);
-  short = sheet-longest p form.height can is.most_height;
-}
+form-sized p h form can is width height = grind (arith, sheet-longest)
 
 -- the first nozzle is above the window's end in each pass
 pub pass-low : (n pitch height t : ℕ) → 1 ≤ n → t < pass_count n pitch height → t * n < (n - 1) * pitch + height
-pass-low n pitch height t some less =
-    let all : ℕ = height + (n - 1) * pitch + (n - 1) in
-    let product : (t + 1) * n ≤ all / n * n = mul-le-mul_right n (omega arith) in
-    let most : all / n * n ≤ all = div-mul-le_self all n in
-    let expanded : (t + 1) * n ≡ t * n + n = omega arith in
-    omega (arith, product, most, expanded)
+pass-low n pitch height t some less = grind (arith, div-mul-le_self, mul-le-mul_right)

@@ -1,4 +1,5 @@
 -- The dots that a page asks for are distinct.
+use Rattle.std.proofs.lemmas.Grind.{common_steps}
 use Rattle.std.proofs.Common.{◌≡◌, ℕ, zero, suc, ◌+◌, ◌*◌, ◌/◌, ◌<◌, ◌≤◌, Bool, true, false, cond, ◌&&◌, ◌==◌, if◌then◌else◌}
 use Rattle.std.proofs.Common.{List, [], ◌∷◌, ◌++◌, refl, sym, ◌∙◌, ap, arith, subst, append_assoc}
 use Rattle.std.proofs.lemmas.Bool.{eqb-true}
@@ -36,25 +37,7 @@ past-all place up z n (suc m) left =
 at-most-one : (place : ℕ → ℕ) → ((a b : ℕ) → a < b → place a < place b) → (z n m : ℕ)
     → sum_by (λ i. cond (z == place i) 1 0) (count_from n m) ≤ 1
 at-most-one place up z n zero = omega arith
-at-most-one place up z n (suc m) = by_place (z == place n) refl (at-most-one place up z (n + 1) m)
-  where
-    by_place : (b : Bool) → (z == place n) ≡ b → sum_by (λ i. cond (z == place i) 1 0) (count_from (n + 1) m) ≤ 1
-        → sum_by (λ i. cond (z == place i) 1 0) (count_from n (suc m)) ≤ 1
-    by_place true e le =
-        let same : z ≡ place n = eqb-true _ _ e in
-        let next : place n < place (n + 1) = up n (n + 1) (omega arith) in
-        let right : sum_by (λ i. cond (z == place i) 1 0) (count_from (n + 1) m) ≡ 0 = past-all place up z (n + 1) m (omega arith) in
-        let all : sum_by (λ i. cond (z == place i) 1 0) (count_from n (suc m))
-        ≡ 1 + sum_by (λ i. cond (z == place i) 1 0) (count_from (n + 1) m) =
-        sum_by-cons (λ i. cond (z == place i) 1 0) n (count_from (n + 1) m)
-        ∙ ap (λ b. cond b 1 0 + sum_by (λ i. cond (z == place i) 1 0) (count_from (n + 1) m)) e in
-        omega arith
-    by_place false e le =
-        let all : sum_by (λ i. cond (z == place i) 1 0) (count_from n (suc m))
-        ≡ 0 + sum_by (λ i. cond (z == place i) 1 0) (count_from (n + 1) m) =
-        sum_by-cons (λ i. cond (z == place i) 1 0) n (count_from (n + 1) m)
-        ∙ ap (λ b. cond b 1 0 + sum_by (λ i. cond (z == place i) 1 0) (count_from (n + 1) m)) e in
-        omega arith
+at-most-one place up z n (suc m) = grind (arith, common_steps, eqb-true, past-all, sum_by-cons, at-most-one place up z (n + 1) m)
 
 -- ---- the dots of a halftone
 
@@ -73,11 +56,7 @@ part-most false b d = record { first = omega arith; second = omega arith; third 
 -- a pixel has at most one dot, at its place
 pixel-most : (p : Printer) (h : Halftone) (d : Dot) (ink : Ink) (y x : ℕ)
     → count_by (is_at d) (pixel_dots p h ink y x) ≤ cond (is_at d (place_of p ink y x)) 1 0
-pixel-most p h d ink y x = by_dot (h.dot ink y x)
-  where
-    by_dot : (b : Bool) → count_by (is_at d) (if b then place_of p ink y x ∷ [] else []) ≤ cond (is_at d (place_of p ink y x)) 1 0
-    by_dot true = omega (arith, count-cons (is_at d) (place_of p ink y x) [])
-    by_dot false = omega arith
+pixel-most p h d ink y x = grind (arith, count-cons)
 
 -- a row has a dot once
 row-once : (p : Printer) (h : Halftone) (d : Dot) (ink : Ink) (y : ℕ) → CanPrint p → count_by (is_at d) (row_wanted p h ink y) ≤ 1

@@ -62,11 +62,7 @@ prologue-run w m job is blank =
 -- where a row is on paper, counted from the head's first position
 pub place-is : (w : Layout) (row : ℕ) → IsLayout w
     → first_of w * 5 + row * row_units w.printer * 5 ≡ (w.printer.top - w.above + row) * row_step w.printer
-place-is w row is =
-    let a : ℕ = w.printer.top - w.above in
-    let u : ℕ = row_units w.printer in
-    let grouped : a * u * 5 + row * u * 5 ≡ (a + row) * (u * 5) = omega arith in
-    grouped ∙ ap (λ s. (a + row) * s) (row_units-is w.printer is.can)
+place-is w row is = grind (arith, row_units-is)
 
 -- a step from one row down to another that is on the sheet
 pub down-run : (w : Layout) (last row : ℕ) (dots : List Dot) (job : List Spoken)

@@ -1,6 +1,7 @@
 -- The interleaved passes over a window print its halftone.
-use Rattle.std.proofs.Common.{◌≡◌, ℕ, zero, suc, ◌+◌, ◌-◌, ◌*◌, ◌<◌, ◌≤◌, Bool, true, false, cond, ◌&&◌, ◌==◌, if◌then◌else◌, List, []}
-use Rattle.std.proofs.Common.{◌∷◌, map, replicate, Option, None, Some, refl, sym, ◌∙◌, ap, arith}
+use Rattle.std.proofs.lemmas.Grind.{common_steps}
+use Rattle.std.proofs.Common.{◌≡◌, ℕ, zero, suc, ◌+◌, ◌-◌, ◌*◌, ◌<◌, ◌≤◌, Bool, cond, ◌&&◌, ◌==◌, if◌then◌else◌, List, []}
+use Rattle.std.proofs.Common.{◌∷◌, map, Option, refl, sym, ◌∙◌, ap, arith}
 use Rattle.std.specs.List.{AllByRecursion, count_by, flat_map}
 use Rattle.std.proofs.lemmas.Bool.{and_right, eqb-true, lt-ltb}
 use Rattle.std.proofs.lemmas.List.Sums.{sum_by-cons}
@@ -10,7 +11,7 @@ use Rattle.printer_definitions.specs.Printer.{Printer, head_rows}
 use Rattle.base_definitions.specs.Packed.{at}
 use Rattle.separation_definitions.specs.CanPrint.{CanPrint}
 use Rattle.page_definitions.specs.Dots.{Halftone}
-use Rattle.page_definitions.specs.PageBytes.{dot_row, fired_row, pass_stroke, weave}
+use Rattle.page_definitions.specs.PageBytes.{fired_row, pass_stroke, weave}
 use Rattle.page_definitions.specs.Strokes.{Fires, IsOnWindow, IsRising, IsWhole, Stroke}
 use Rattle.base_definitions.specs.Counting.{count_from}
 use Rattle.weave_definitions.specs.Weave.{Firing, firing, nozzle_row, pass_count, passes}
@@ -31,42 +32,7 @@ nozzle-hits : (p : Printer) (h : Halftone) (ink : Ink) (y x t i : ℕ) → x < h
     → cond ((t * p.nozzles + i * p.pitch - head_rows p == y) && at (fired_row h ink (nozzle_row p.nozzles p.pitch h.height t i)) x) 1 0
     ≡ cond (h.dot ink y x) (count_by (of_row y) (firing t i (nozzle_row p.nozzles p.pitch h.height t i))) 0
 unfolding of_row
-nozzle-hits p h ink y x t i low = by_row (nozzle_row p.nozzles p.pitch h.height t i) refl
-  where
-    start : ℕ
-    start = t * p.nozzles + i * p.pitch
-
-    one_if : Bool → ℕ
-    one_if b = cond b 1 0
-
-    by_same : (row : ℕ) (b : Bool) → (row == y) ≡ b
-        → count_by (of_row y) (record { pass = t; nozzle = i; row = row } ∷ []) ≡ cond (row == y) 1 0 + 0
-        → one_if ((row == y) && h.dot ink row x)
-        ≡ cond (h.dot ink y x) (count_by (of_row y) (record { pass = t; nozzle = i; row = row } ∷ [])) 0
-    by_same row true e count =
-        let one : count_by (of_row y) (record { pass = t; nozzle = i; row = row } ∷ []) ≡ 1 =
-        count ∙ ap (λ b. one_if b + 0) e ∙ (let sum : 1 + 0 ≡ 1 = omega arith in sum) in
-        ap (λ b. one_if (b && h.dot ink row x)) e
-        ∙ ap (λ k. one_if (h.dot ink k x)) (eqb-true row y e)
-        ∙ sym (ap (λ k. cond (h.dot ink y x) k 0) one)
-    by_same row false e count =
-        let none : count_by (of_row y) (record { pass = t; nozzle = i; row = row } ∷ []) ≡ 0 =
-        count ∙ ap (λ b. one_if b + 0) e ∙ (let sum : 0 + 0 ≡ 0 = omega arith in sum) in
-        ap (λ b. one_if (b && h.dot ink row x)) e ∙ sym (if-none (h.dot ink y x) _ none)
-
-    by_row : (r : Option ℕ) → nozzle_row p.nozzles p.pitch h.height t i ≡ r
-        → cond ((start - head_rows p == y) && at (fired_row h ink r) x) 1 0 ≡ cond (h.dot ink y x) (count_by (of_row y) (firing t i r)) 0
-    by_row None e =
-        ap one_if (and_right (start - head_rows p == y) (at (replicate h.width false) x) (no-dot h.width x))
-        ∙ sym (if-none (h.dot ink y x) 0 refl)
-    by_row (Some row) e =
-        let is = stands_on p.nozzles p.pitch h.height t i row e in
-        let stands : start - head_rows p ≡ row = omega (arith, is.sum) in
-        let column : 0 + x ≡ x = omega arith in
-        let dot : at (dot_row h ink row) x ≡ h.dot ink row x = at-counted (h.dot ink row) 0 h.width x low ∙ ap (h.dot ink row) column in
-        ap (λ n. one_if ((n == y) && at (dot_row h ink row) x)) stands
-        ∙ ap (λ b. one_if ((row == y) && b)) dot
-        ∙ by_same row (row == y) refl (count-cons (of_row y) (record { pass = t; nozzle = i; row = row }) [])
+nozzle-hits p h ink y x t i low = grind (arith, and_right, at-counted, count-cons, eqb-true, if-none, no-dot, of_row, stands_on)
 
 -- the nozzles of one pass
 pass-hits : (p : Printer) (h : Halftone) (ink : Ink) (y x t start i many : ℕ) → x < h.width → start ≡ t * p.nozzles + i * p.pitch
@@ -95,15 +61,7 @@ passes-hit : (p : Printer) (h : Halftone) (ink : Ink) (y x : ℕ) (ts : List ℕ
     flat_map (λ i. firing t i (nozzle_row p.nozzles p.pitch h.height t i)) (count_from 0 p.nozzles)) ts)) 0
 passes-hit p h ink y x [] low = sym (if-none (h.dot ink y x) 0 refl)
 passes-hit p h ink y x (t ∷ ts) low =
-    let of : ℕ → List Firing = λ t. flat_map (λ i. firing t i (nozzle_row p.nozzles p.pitch h.height t i)) (count_from 0 p.nozzles) in
-    let dot : Bool = h.dot ink y x in
-    let first : t * p.nozzles ≡ t * p.nozzles + 0 * p.pitch = omega arith in
-    sum_by-cons (λ (stroke : Stroke). rows_hits p.pitch (head_rows p) y x stroke.start (stroke.rows ink))
-    (pass_stroke p h t) (map (pass_stroke p h) ts)
-    ∙ ap (λ n. n + hits p (head_rows p) (map (pass_stroke p h) ts) ink y x) (pass-hits p h ink y x t (t * p.nozzles) 0 p.nozzles low first)
-    ∙ ap (λ n. cond dot (count_by (of_row y) (of t)) 0 + n) (passes-hit p h ink y x ts low)
-    ∙ if-plus dot (count_by (of_row y) (of t)) (count_by (of_row y) (flat_map of ts))
-    ∙ ap (λ n. cond dot n 0) (sym (count-append (of_row y) (of t) (flat_map of ts)))
+    grind (arith, common_steps, count-append, hits, if-plus, of_row, pass-hits, rows_hits, sum_by-cons, passes-hit p h ink y x ts low)
 
 -- the passes fire each dot once
 weave-hits : (p : Printer) (h : Halftone) → CanPrint p → FiresEachDot p h (weave p h)
