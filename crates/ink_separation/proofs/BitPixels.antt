@@ -1,6 +1,6 @@
 -- Pixels of one bit.
 use Rattle.std.proofs.Common.{◌≡◌, ◌≢◌, ℕ, ◌+◌, ◌-◌, ◌*◌, ◌/◌, ◌%◌, ◌^◌, ◌==◌, ◌<◌, Bool, true, not, List, get_or}
-use Rattle.std.proofs.Common.{refl, sym, ◌∙◌, ap, arith, bit_and, inl, inr}
+use Rattle.std.proofs.Common.{refl, ◌∙◌, ap, arith, bit_and}
 use Rattle.std.proofs.lemmas.Bool.{agree_below, agree_below_at, cases_eq, eq-eqb, eqb-true, ne_eqb}
 use Rattle.std.proofs.lemmas.Simd.{get_or-chunk}
 use Rattle.std.specs.Simd.Lanes.{chunk}
@@ -52,9 +52,4 @@ bit-is k byte low fits =
 -- what is left of a bit says what its pixel is
 pub pixel-is : (k byte left value : ℕ) → k < 8 → byte < 256 → left ≡ bit_and byte (2 ^ (7 - k))
     → (left ≡ 0 → value ≡ 0) → (left ≢ 0 → value ≡ 255) → value ≡ 255 * worth (bit_at byte k) 1
-pixel-is k byte left value low fits is none some =
-    let shown : bit_at byte k ≡ not (left == 0) = bit-is k byte low fits ∙ ap (λ n. not (n == 0)) (sym is) in
-    elim (cases_eq left 0) [
-      | inl gone ↦ none gone ∙ ap (λ b. 255 * worth b 1) (sym (shown ∙ ap not (eq-eqb left 0 gone)))
-      | inr stays ↦ some stays ∙ ap (λ b. 255 * worth b 1) (sym (shown ∙ ap not (ne_eqb left 0 stays)))
-    ]
+pixel-is k byte left value low fits is none some = grind (arith, bit-is, cases_eq, eq-eqb, ne_eqb)

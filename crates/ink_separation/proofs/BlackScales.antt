@@ -24,10 +24,7 @@ product_is least q above scale from is = ap (λ n. n * scale) from ∙ ap (λ n.
 
 pub product_fits : (least q above scale : ℕ) → above ≡ q - least → scale ≡ scale_above least → least < 255 → q < 256
     → above * scale < 2 ^ 32
-product_fits least q above scale from is some low =
-    let fits : (q - least) * scale_above least < 2 ^ 32 = ltb-true _ _ (agree_below_at (fits_at least) (λ p. true) 256 q
-    (agree_below_at (λ l. agree_below (fits_at l) (λ p. true) 256) (λ l. true) 255 least all_fit some) low) in
-    omega (arith, fits, product_is least q above scale from is)
+product_fits least q above scale from is some low = grind (arith, agree_below, agree_below_at, all_fit, fits_at, ltb-true, product_is)
 
 pub part_is : (least q above scale : ℕ) → above ≡ q - least → scale ≡ scale_above least → least < 255 → q < 256
     → above * scale / 2 ^ 24 ≡ moved_to_black least q

@@ -28,9 +28,7 @@ pub complements_are : (pixels none cyan magenta yellow : List ℕ) (many : ℕ) 
     → get_or (given_to (record { black = none; cyan = cyan; magenta = magenta; yellow = yellow }) ink) x 0
     ≡ complement (colour_at pixels x) ink
 complements_are pixels none cyan magenta yellow many few zeros c m y Black x inside = zeros x (omega arith)
-complements_are pixels none cyan magenta yellow many few zeros c m y Cyan x inside =
-    let place : 3 * x + 0 ≡ 3 * x = omega arith in
-    c x inside ∙ ap (λ n. 255 - get_or pixels n 0) place
+complements_are pixels none cyan magenta yellow many few zeros c m y Cyan x inside = grind arith
 complements_are pixels none cyan magenta yellow many few zeros c m y Magenta x inside = m x inside
 complements_are pixels none cyan magenta yellow many few zeros c m y Yellow x inside = y x inside
 

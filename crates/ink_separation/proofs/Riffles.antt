@@ -1,5 +1,5 @@
 -- Bytes that are riffled: 96 places, of which the even ones take the first half.
-use Rattle.std.proofs.Common.{◌≡◌, ℕ, ◌+◌, ◌*◌, ◌/◌, ◌%◌, ◌<◌, ◌∙◌, ap, arith}
+use Rattle.std.proofs.Common.{◌≡◌, ℕ, ◌+◌, ◌*◌, ◌/◌, ◌%◌, ◌<◌, ◌∙◌, arith}
 
 -- where the byte of a place comes from
 abbrev pub next_place : ℕ → ℕ
@@ -13,11 +13,4 @@ five_places colour x few low = omega arith
 pub five_times : (a b c d e f : ℕ → ℕ) → ((k : ℕ) → k < 96 → b k ≡ a (next_place k)) → ((k : ℕ) → k < 96 → c k ≡ b (next_place k))
     → ((k : ℕ) → k < 96 → d k ≡ c (next_place k)) → ((k : ℕ) → k < 96 → e k ≡ d (next_place k))
     → ((k : ℕ) → k < 96 → f k ≡ e (next_place k)) → (colour x : ℕ) → colour < 3 → x < 32 → f (32 * colour + x) ≡ a (3 * x + colour)
-five_times a b c d e f first second third fourth fifth colour x few low =
-    let p : ℕ = 32 * colour + x in
-    let q : ℕ = next_place p in
-    let r : ℕ = next_place q in
-    let s : ℕ = next_place r in
-    let t : ℕ = next_place s in
-    fifth p (omega arith) ∙ fourth q (omega arith) ∙ third r (omega arith) ∙ second s (omega arith) ∙ first t (omega arith)
-    ∙ ap a (five_places colour x few low)
+five_times a b c d e f first second third fourth fifth colour x few low = grind (arith, five_places, next_place)

@@ -1,6 +1,6 @@
 -- Counts and sums over lists.
 use Rattle.std.proofs.Common.{◌≡◌, ◌≢◌, ℕ, zero, suc, ◌+◌, ◌<◌, ◌≤◌, Bool, true, false, cond, ◌||◌, inl, inr}
-use Rattle.std.proofs.Common.{if◌then◌else◌, List, [], ◌∷◌, ◌++◌, refl, sym, ◌∙◌, ap, arith}
+use Rattle.std.proofs.Common.{if◌then◌else◌, List, [], ◌∷◌, ◌++◌, refl, ◌∙◌, ap, arith}
 use Rattle.std.proofs.lemmas.Bool.{cases_eq}
 use Rattle.std.proofs.lemmas.List.Sums.{sum_by-append, sum_by-cons}
 use Rattle.std.specs.List.{AllByRecursion, list_any, count_by, flat_map, sum_by}
@@ -16,10 +16,7 @@ each-of P (x ∷ xs) every = (every x, each-of P xs every)
 -- a fact of the numbers in between is one of each that is counted
 pub each-from : (P : ℕ → Type 0) (n many : ℕ) → ((k : ℕ) → n ≤ k → k < n + many → P k) → AllByRecursion P (count_from n many)
 each-from P n zero between = tt
-each-from P n (suc many) between = (
-  between n (omega arith) (omega arith),
-  each-from P (n + 1) many (λ k first last. between k (omega arith) (omega arith)),
-)
+each-from P n (suc many) between = grind (arith, each-from P (n + 1) many (λ k first last. between k (omega arith) (omega arith)))
 
 -- ---- sums
 
@@ -96,16 +93,4 @@ flat-none test f (x ∷ xs) each = omega (arith, count-append test (f x) (flat_m
 -- where at most one is counted, the count says whether there is one
 pub few : {X : Type 0} (test : X → Bool) (xs : List X) → count_by test xs ≤ 1 → count_by test xs ≡ (if list_any test xs then 1 else 0)
 few test [] le = refl
-few test (x ∷ xs) le = by_head (test x) refl (few test xs)
-  where
-    by_head : (b : Bool) → test x ≡ b
-        → (count_by test xs ≤ 1 → count_by test xs ≡ (if list_any test xs then 1 else 0))
-        → count_by test (x ∷ xs) ≡ (if list_any test (x ∷ xs) then 1 else 0)
-    by_head true e rest =
-        let count : count_by test (x ∷ xs) ≡ 1 + count_by test xs = count-cons test x xs ∙ ap (λ b. cond b 1 0 + count_by test xs) e in
-        let is_one : count_by test (x ∷ xs) ≡ 1 = omega arith in
-        is_one ∙ sym (ap (λ b. if b || list_any test xs then 1 else 0) e)
-    by_head false e rest =
-        let count : count_by test (x ∷ xs) ≡ 0 + count_by test xs = count-cons test x xs ∙ ap (λ b. cond b 1 0 + count_by test xs) e in
-        let same : count_by test (x ∷ xs) ≡ count_by test xs = omega arith in
-        same ∙ rest (omega arith) ∙ sym (ap (λ b. if b || list_any test xs then 1 else 0) e)
+few test (x ∷ xs) le = grind (arith, count-cons, few test xs)

@@ -1,17 +1,15 @@
 -- The dots that a raster of a stroke fires.
+use Rattle.std.proofs.lemmas.Grind.{common_steps}
 use Rattle.std.proofs.Common.{◌≡◌, ℕ, suc, ◌+◌, ◌-◌, ◌*◌, ◌/◌, ◌<◌, ◌≤◌, Bool, true, false, nat_le, ◌||◌, List, [], ◌∷◌, ◌++◌}
-use Rattle.std.proofs.Common.{length, take, drop, refl, sym, ◌∙◌, ap, arith, append-nil}
+use Rattle.std.proofs.Common.{length, refl, sym, ◌∙◌, ap, arith, append-nil}
 use Rattle.std.specs.List.{list_any, flat_map, AllByRecursion}
 use Rattle.std.proofs.lemmas.Bool.Decides.{nat_tests}
 use Rattle.std.proofs.lemmas.List.{take_at, drop_at}
 use Rattle.printer_definitions.specs.declared.inks.Ink.{Ink}
 use Rattle.printer_definitions.specs.Printer.{Printer, column_step, nozzle_step, row_step}
 use Rattle.escp2_definitions.specs.declared.command.RasterHead.{RasterHead}
-use Rattle.escp2_definitions.specs.Commands.{row_bytes}
-use Rattle.base_definitions.specs.Packed.{bits}
 use Rattle.escp2_definitions.specs.Machine.{Dot, row_dots, rows_dots}
 use Rattle.base_definitions.specs.Packed.{packed}
-use Rattle.page_definitions.specs.Dots.{place_of}
 use Rattle.page_definitions.specs.Strokes.{IsOnWindow, has_dot, row_fired, rows_fired}
 use Rattle.separation_definitions.specs.CanPrint.{CanPrint}
 use Rattle.page_laws.proofs.Numbers.{column_place, nozzle_step-is, rises, row_place, row_step-some}
@@ -38,21 +36,7 @@ pub rows_dots-fired : (header : RasterHead) (ink : Ink) (y : ℕ) (rows : List (
 unfolding rows_dots
 rows_dots-fired header ink y [] wide = refl
 rows_dots-fired header ink y (row ∷ rows) wide =
-    let more : List ℕ = flat_map packed rows in
-    let len : length (packed row) ≡ row_bytes header = packed-len header.n row wide.0 in
-    let front : take (row_bytes header) (packed row ++ more) ≡ packed row = take_at (packed row) more (row_bytes header) len in
-    let behind : drop (row_bytes header) (packed row ++ more) ≡ more = drop_at (packed row) more (row_bytes header) len in
-    let whole : take header.n (bits (packed row)) ≡ row =
-    ap (λ bs. take header.n (bits bs)) (sym (take_all_of (packed row) (row_bytes header) len)) ∙ row-packed header.n row wide.0 in
-    ap (λ bs. row_dots ink 0 header.h y (take header.n (bits bs))
-    ++ rows_dots (length rows) header ink 0 (y + header.v) (drop (row_bytes header) (packed row ++ more))) front
-    ∙ ap (λ bs. row_dots ink 0 header.h y (take header.n (bits (packed row)))
-    ++ rows_dots (length rows) header ink 0 (y + header.v) bs) behind
-    ∙ ap (λ r. row_dots ink 0 header.h y r ++ rows_dots (length rows) header ink 0 (y + header.v) more) whole
-    ∙ ap (λ ds. row_dots ink 0 header.h y row ++ ds) (rows_dots-fired header ink (y + header.v) rows wide.1)
-  where
-    take_all_of : (bs : List ℕ) (n : ℕ) → length bs ≡ n → take n bs ≡ bs
-    take_all_of bs n e = ap (take n) (sym (append-nil bs)) ∙ take_at bs [] n e
+    grind (arith, common_steps, append-nil, drop_at, packed-len, row-packed, take_at, rows_dots-fired header ink (y + header.v) rows wide.1)
 
 -- ---- blank rows
 
@@ -88,16 +72,8 @@ blank-rows p above ink start (row ∷ rows) e =
 row-is : (p : Printer) (ink : Ink) (y x place : ℕ) (row : List Bool) → CanPrint p → place ≡ (p.top + y) * 3600 / p.vdpi
     → row_dots ink (x * column_step p) (column_step p) place row ≡ row_fired p ink y x row
 row-is p ink y x place [] can e = refl
-row-is p ink y x place (true ∷ row) can e =
-    let dot : ℕ → ℕ → Dot = λ a b. record { ink = ink; x = a; y = b } in
-    let next : x * column_step p + column_step p ≡ (x + 1) * column_step p = omega arith in
-    ap (λ a. dot (x * column_step p) place ∷ row_dots ink a (column_step p) place row) next
-    ∙ ap (λ ds. dot (x * column_step p) place ∷ ds) (row-is p ink y (x + 1) place row can e)
-    ∙ ap (λ a. dot a place ∷ row_fired p ink y (x + 1) row) (sym (column_place p x can))
-    ∙ ap (λ b. dot (x * 3600 / p.hdpi) b ∷ row_fired p ink y (x + 1) row) e
-row-is p ink y x place (false ∷ row) can e =
-    let next : x * column_step p + column_step p ≡ (x + 1) * column_step p = omega arith in
-    ap (λ a. row_dots ink a (column_step p) place row) next ∙ row-is p ink y (x + 1) place row can e
+row-is p ink y x place (true ∷ row) can e = grind (arith, column_place, row-is p ink y (x + 1) place row can e)
+row-is p ink y x place (false ∷ row) can e = grind (arith, row-is p ink y (x + 1) place row can e)
 
 -- The rows below the first lie on the window as well.
 pub on_window-next : (pitch above height start : ℕ) (row : List Bool) (rows : List (List Bool))
@@ -158,9 +134,7 @@ none-both test (x ∷ xs) ys e f =
 row-low : (p : Printer) (ink : Ink) (y x bottom : ℕ) (row : List Bool) → (p.top + y) * 3600 / p.vdpi < bottom
     → list_any (λ d. nat_le bottom d.y) (row_fired p ink y x row) ≡ false
 row-low p ink y x bottom [] low = refl
-row-low p ink y x bottom (true ∷ row) low =
-    let apart : nat_le bottom ((p.top + y) * 3600 / p.vdpi) ≡ false = grind (arith, nat_tests) in
-    none-of (λ d. nat_le bottom d.y) (place_of p ink y x) (row_fired p ink y (x + 1) row) apart (row-low p ink y (x + 1) bottom row low)
+row-low p ink y x bottom (true ∷ row) low = grind (arith, nat_tests, none-of, row-low p ink y (x + 1) bottom row low)
 row-low p ink y x bottom (false ∷ row) low = row-low p ink y (x + 1) bottom row low
 
 -- The dots of rows on the window are above the bottom margin.
@@ -169,16 +143,4 @@ pub on_sheet : (p : Printer) (above height : ℕ) (ink : Ink) (start bottom : �
     → list_any (λ d. nat_le bottom d.y) (rows_fired p above ink start rows) ≡ false
 on_sheet p above height ink start bottom [] can is e = refl
 on_sheet p above height ink start bottom (row ∷ rows) can is e =
-    none-both (λ d. nat_le bottom d.y) (row_fired p ink (start - above) 0 row) (rows_fired p above ink (start + p.pitch) rows)
-    (here (list_any (λ on. on) row) refl)
-    (on_sheet p above height ink (start + p.pitch) bottom rows can (on_window-next p.pitch above height start row rows is) e)
-  where
-    here : (b : Bool) → list_any (λ on. on) row ≡ b → list_any (λ d. nat_le bottom d.y) (row_fired p ink (start - above) 0 row) ≡ false
-    here false f = ap (list_any (λ d. nat_le bottom d.y)) (blank-row p ink (start - above) 0 row f)
-    here true f =
-        let on = on_window-first p.pitch above height start row rows is f in
-        let y : ℕ = start - above in
-        let s : ℕ = row_step p in
-        let less : (p.top + y) * s < (p.top + height) * s =
-        rises (p.top + y) (p.top + height) s (row_step-some p can) (omega (arith, on.0, on.1)) in
-        row-low p ink y 0 bottom row (omega (arith, row_place p (p.top + y) can, e, less))
+    grind (arith, blank-row, none-both, on_window-first, on_window-next, rises, row-low, row_place, row_step-some, on_sheet p above height ink (start + p.pitch) bottom rows can (on_window-next p.pitch above height start row rows is) e)

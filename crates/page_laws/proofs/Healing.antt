@@ -1,6 +1,6 @@
 -- The strokes of a head with dead nozzles print the halftone of their window.
-use Rattle.std.proofs.Common.{◌≡◌, ℕ, zero, suc, ◌+◌, ◌-◌, ◌*◌, ◌<◌, ◌≤◌, Bool, true, cond, not, ◌&&◌, ◌==◌}
-use Rattle.std.proofs.Common.{List, [], ◌∷◌, map, Option, None, Some, Ok, refl, sym, ◌∙◌, ap, arith, subst}
+use Rattle.std.proofs.Common.{◌≡◌, ℕ, zero, suc, ◌+◌, ◌-◌, ◌*◌, ◌<◌, ◌≤◌, Bool, true, cond, ◌&&◌, ◌==◌}
+use Rattle.std.proofs.Common.{List, [], ◌∷◌, map, None, Ok, refl, sym, ◌∙◌, ap, arith, subst}
 use Rattle.std.specs.List.{AllByRecursion, count_by, flat_map, list_any}
 use Rattle.std.specs.Prelude.{slice_index_or}
 use Rattle.std.proofs.lemmas.Bool.{and_right, eqb-true, lt-ltb}
@@ -187,12 +187,7 @@ healed-fires dead p h can good =
 
 -- a dead nozzle fires nothing
 dead-row : (head : Head) (s : HeadStroke) (i : ℕ) → i < head.nozzles → IsStrokeAt head s → has head.dead i ≡ true → row_of s.shots i ≡ None
-dead-row head s i few shape e =
-    ap (λ (s : HeadStroke). row_of s.shots i) shape.is ∙ stroke-row head shape.wanted shape.start i few ∙ by_row (row_under head shape.start i)
-  where
-    by_row : (r : Option ℕ) → wanted_row head shape.wanted i r ≡ None
-    by_row None = refl
-    by_row (Some row) = ap (λ b. cond (not b && shape.wanted row) (Some row) None) e
+dead-row head s i few shape e = grind (arith, stroke-row, wanted_row)
 
 -- No row of their rasters has a dot where its nozzle is dead.
 pub healed-spared : (dead : List ℕ) (p : Printer) (h : Halftone) (tall : ℕ) → CanPrint p → checked p.nozzles dead ≡ Ok tt → Sized p h tall

@@ -1,6 +1,6 @@
 -- Rows of dots that are packed into bytes are taken out again.
 use Rattle.std.proofs.Common.{◌≡◌, ℕ, zero, suc, ◌+◌, ◌*◌, ◌/◌, ◌≤◌, Bool, true, false, List, [], ◌∷◌, ◌++◌}
-use Rattle.std.proofs.Common.{length, take, drop, refl, sym, ◌∙◌, ap, arith}
+use Rattle.std.proofs.Common.{length, take, drop, refl, ◌∙◌, ap, arith}
 use Rattle.std.proofs.lemmas.List.{take_all}
 use Rattle.base_definitions.specs.Packed.{at, bits, byte_bits, packed, packed_bytes}
 use Rattle.base_definitions.proofs.Bytes.{byte_of, each_byte, each_byte-at}
@@ -72,10 +72,4 @@ packed_bytes-len (suc n) row = ap suc (packed_bytes-len n (drop 8 row))
 
 -- a row of dots, packed, is taken out whole
 pub row-packed : (width : ℕ) (row : List Bool) → length row ≡ width → take width (bits (take ((width + 7) / 8) (packed row))) ≡ row
-row-packed width row e =
-    let bytes : ℕ = (length row + 7) / 8 in
-    let fits : length row ≤ bytes * 8 = omega arith in
-    let whole : take bytes (packed row) ≡ packed row = take_all bytes (packed row) (omega (arith, packed_bytes-len bytes row)) in
-    ap (λ w. take w (bits (take ((w + 7) / 8) (packed row)))) (sym e)
-    ∙ ap (λ bs. take (length row) (bits bs)) whole
-    ∙ bits-packed_bytes bytes row fits
+row-packed width row e = grind (arith, bits-packed_bytes, packed_bytes-len, take_all)

@@ -23,11 +23,7 @@ use Rattle.page_laws.proofs.Firing.{Lies, fires_ink, inks-run}
 -- A list of which one passes has one that passes.
 passes : {X : Type 0} (test : X → Bool) (xs : List X) → list_any test xs ≡ true → (x : X) × (test x ≡ true)
 passes {X = X} test [] e = absurd (let no : ⊥ = cc in no)
-passes {X = X} test (x ∷ xs) e = by_head (test x) refl (passes test xs)
-  where
-    by_head : (b : Bool) → test x ≡ b → (list_any test xs ≡ true → (y : X) × (test y ≡ true)) → (y : X) × (test y ≡ true)
-    by_head true f rest = (x, f)
-    by_head false f rest = rest (ap (λ b. b || list_any test xs) (sym f) ∙ e)
+passes {X = X} test (x ∷ xs) e = grind (arith, passes test xs)
 
 -- Rows with a dot have a place where a row has one.
 row-passes : (rows : List (List Bool)) → has_dot rows ≡ true → (i : ℕ) × (list_any (λ on. on) (slice_index_or rows i []) ≡ true)
@@ -71,12 +67,7 @@ rising-from last higher (stroke ∷ strokes) le rising = (omega (arith, rising.0
 -- some of the strokes rise as all of them do
 pub rising-some : (test : Stroke → Bool) (last : ℕ) (strokes : List Stroke) → IsRising last strokes → IsRising last (filter test strokes)
 rising-some test last [] rising = tt
-rising-some test last (stroke ∷ strokes) rising = by_stroke (test stroke) (rising-some test stroke.start strokes rising.1)
-  where
-    by_stroke : (b : Bool) → IsRising stroke.start (filter test strokes)
-        → IsRising last (cond b (stroke ∷ filter test strokes) (filter test strokes))
-    by_stroke true rest = (rising.0, rest)
-    by_stroke false rest = rising-from stroke.start last (filter test strokes) rising.0 rest
+rising-some test last (stroke ∷ strokes) rising = grind (arith, rising-from, rising-some test stroke.start strokes rising.1)
 
 -- inks without a dot fire none
 none-each : (p : Printer) (above : ℕ) (stroke : Stroke) (inks : List Ink) → list_any (λ ink. has_dot (stroke.rows ink)) inks ≡ false
@@ -92,15 +83,7 @@ none-each p above stroke (ink ∷ inks) e =
 pub strokes-all : (p : Printer) (above : ℕ) (strokes : List Stroke)
     → flat_map (stroke_fired p above) (filter (fires p) strokes) ≡ flat_map (stroke_fired p above) strokes
 strokes-all p above [] = refl
-strokes-all p above (stroke ∷ strokes) = by_stroke (fires p stroke) refl (strokes-all p above strokes)
-  where
-    by_stroke : (b : Bool) → fires p stroke ≡ b
-        → flat_map (stroke_fired p above) (filter (fires p) strokes) ≡ flat_map (stroke_fired p above) strokes
-        → flat_map (stroke_fired p above) (cond b (stroke ∷ filter (fires p) strokes) (filter (fires p) strokes))
-        ≡ stroke_fired p above stroke ++ flat_map (stroke_fired p above) strokes
-    by_stroke true e rest = ap (λ ds. stroke_fired p above stroke ++ ds) rest
-    by_stroke false e rest = rest
-        ∙ ap (λ ds. ds ++ flat_map (stroke_fired p above) strokes) (sym (none-each p above stroke (inks_of p.inks) e))
+strokes-all p above (stroke ∷ strokes) = grind (arith, none-each, strokes-all p above strokes)
 
 -- ---- the strokes, one after another
 

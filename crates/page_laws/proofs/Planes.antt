@@ -31,18 +31,10 @@ only Cmy (suc zero) ink f e =
 only Cmy (suc (suc zero)) ink f e =
     subst (Only Cmy f) (let same : Yellow ≡ ink = cc in same) (λ none. omega (arith, none Cyan refl, none Magenta refl))
 only Cmy (suc (suc (suc i))) ink f e = cc
-only Cmyk zero ink f e =
-    subst (Only Cmyk f) (let same : Black ≡ ink = cc in same)
-    (λ none. omega (arith, none Cyan refl, none Magenta refl, none Yellow refl))
-only Cmyk (suc zero) ink f e =
-    subst (Only Cmyk f) (let same : Cyan ≡ ink = cc in same)
-    (λ none. omega (arith, none Black refl, none Magenta refl, none Yellow refl))
-only Cmyk (suc (suc zero)) ink f e =
-    subst (Only Cmyk f) (let same : Magenta ≡ ink = cc in same)
-    (λ none. omega (arith, none Black refl, none Cyan refl, none Yellow refl))
-only Cmyk (suc (suc (suc zero))) ink f e =
-    subst (Only Cmyk f) (let same : Yellow ≡ ink = cc in same)
-    (λ none. omega (arith, none Black refl, none Cyan refl, none Magenta refl))
+only Cmyk zero ink f e = grind (arith, Only)
+only Cmyk (suc zero) ink f e = grind (arith, Only)
+only Cmyk (suc (suc zero)) ink f e = grind (arith, Only)
+only Cmyk (suc (suc (suc zero))) ink f e = grind (arith, Only)
 only Cmyk (suc (suc (suc (suc i)))) ink f e = cc
 
 -- a sum over a set without the ink that counts
@@ -56,11 +48,7 @@ without (other ∷ inks) ink f e others =
 
 -- where nothing passes the sum is 0
 no-total : (b : Bool) (height width : ℕ) (g : ℕ → ℕ → ℕ) → b ≡ false → total (λ y x. b) height width g ≡ 0
-no-total b height width g e =
-    sum-none (λ y. sum_by (λ x. cond b (g y x) 0) (count_from 0 width)) (count_from 0 height)
-    (each-of (λ y. sum_by (λ x. cond b (g y x) 0) (count_from 0 width) ≡ 0) (count_from 0 height) (λ y.
-    sum-none (λ x. cond b (g y x) 0) (count_from 0 width)
-    (each-of (λ x. cond b (g y x) 0 ≡ 0) (count_from 0 width) (λ x. ap (λ b. cond b (g y x) 0) e))))
+no-total b height width g e = grind (arith, each-of, sum-none)
 
 -- the dots of an ink in a halftone
 ink_dots : Halftone → Ink → Ink → ℕ

@@ -1,5 +1,6 @@
 -- The rows of the rasters of strokes are those that the strokes fire.
-use Rattle.std.proofs.Common.{◌≡◌, ℕ, zero, suc, ◌+◌, ◌-◌, ◌*◌, ◌<◌, Bool, true, false, cond, if◌then◌else◌, List, [], ◌∷◌, ◌++◌}
+use Rattle.std.proofs.lemmas.Grind.{common_steps}
+use Rattle.std.proofs.Common.{◌≡◌, ℕ, zero, suc, ◌+◌, ◌-◌, ◌*◌, ◌<◌, Bool, true, false, if◌then◌else◌, List, [], ◌∷◌, ◌++◌}
 use Rattle.std.proofs.Common.{length, take, drop, sym, ◌∙◌, ap, subst, arith, append-nil, filter, flat_map}
 use Rattle.std.specs.List.{AllByRecursion}
 use Rattle.std.specs.Prelude.{slice_index_or}
@@ -34,14 +35,7 @@ take-whole bs n e = ap (take n) (sym (append-nil bs)) ∙ take_at bs [] n e
 row-is : (header : RasterHead) (rows : List (List Bool)) (i : ℕ) → AllWide header.n rows → i < length rows
     → raster_row header (flat_map packed rows) i ≡ slice_index_or rows i []
 row-is header [] i wide low = absurd (omega arith)
-row-is header (row ∷ rows) zero wide low =
-    let more : List ℕ = flat_map packed rows in
-    let len : length (packed row) ≡ row_bytes header = packed-len header.n row wide.0 in
-    let whole : take (row_bytes header) (packed row) ≡ packed row = take-whole (packed row) (row_bytes header) len in
-    let none : 0 * row_bytes header ≡ 0 = omega arith in
-    ap (λ n. take header.n (bits (take (row_bytes header) (drop n (packed row ++ more))))) none
-    ∙ ap (λ bs. take header.n (bits bs)) (take_at (packed row) more (row_bytes header) len ∙ sym whole)
-    ∙ row-packed header.n row wide.0
+row-is header (row ∷ rows) zero wide low = grind (arith, common_steps, packed-len, row-packed, take-whole, take_at)
 row-is header (row ∷ rows) (suc i) wide low =
     let more : List ℕ = flat_map packed rows in
     let b : ℕ = row_bytes header in
@@ -116,22 +110,13 @@ strokes-rows Q w (stroke ∷ strokes) last lie is =
 -- what is true of each of a list is true of some of them
 some-of : {X : Type 0} (P : X → Type 0) (test : X → Bool) (xs : List X) → AllByRecursion P xs → AllByRecursion P (filter test xs)
 some-of P test [] all = tt
-some-of {X = X} P test (x ∷ xs) all = by_head (test x) (some-of P test xs all.1)
-  where
-    by_head : (b : Bool) → AllByRecursion P (filter test xs) → AllByRecursion P (cond b (x ∷ filter test xs) (filter test xs))
-    by_head true rest = (all.0, rest)
-    by_head false rest = rest
+some-of {X = X} P test (x ∷ xs) all = grind (arith, some-of P test xs all.1)
 
 -- the whole job of a page
 page-rows : (Q : ℕ → (ℕ → Bool) → Type 0) (w : Layout) (strokes : List Stroke)
     → AllByRecursion (Lies w) (filter (fires w.printer) strokes)
     → AllByRecursion (StrokeRows Q w.printer.nozzles) strokes → AllRows Q (page_says w strokes)
-page-rows Q w strokes lie is =
-    let fired : List Stroke = filter (fires w.printer) strokes in
-    let behind : AllRows Q (fires_strokes w 0 fired ++ (say c.Eject ∷ say c.Init ∷ [])) =
-    rows-append Q (fires_strokes w 0 fired) _
-    (strokes-rows Q w fired 0 lie (some-of (StrokeRows Q w.printer.nozzles) (fires w.printer) strokes is)) (tt, (tt, tt)) in
-    (tt, (tt, (tt, (tt, (tt, (tt, (tt, (tt, behind))))))))
+page-rows Q w strokes lie is = grind (arith, AllRows, fires_strokes, rows-append, some-of, strokes-rows)
 
 -- ---- the rows of bytes
 

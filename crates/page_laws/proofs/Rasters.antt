@@ -1,6 +1,7 @@
 -- How many rasters of an ink the strokes of a page take.
+use Rattle.std.proofs.lemmas.Grind.{common_steps}
 use Rattle.std.proofs.Common.{◌≡◌, ℕ, zero, suc, ◌+◌, ◌-◌, ◌*◌, ◌≤◌, Bool, true, false, cond, if◌then◌else◌, List, [], ◌∷◌, ◌++◌}
-use Rattle.std.proofs.Common.{length, refl, sym, ◌∙◌, ap, arith, append_assoc, filter, flat_map}
+use Rattle.std.proofs.Common.{length, refl, ◌∙◌, ap, arith, append_assoc, filter, flat_map}
 use Rattle.std.specs.List.{count_by, sum_by}
 use Rattle.std.proofs.lemmas.List.{length-map}
 use Rattle.std.proofs.lemmas.List.Sums.{count_by-le-length, sum_by-cons}
@@ -27,7 +28,6 @@ use Rattle.weave_definitions.specs.Weave.{pass_count}
 use Rattle.page_laws.specs.Sized.{Sized}
 use Rattle.page_laws.proofs.Counts.{count-cons}
 use Rattle.page_laws.proofs.Running.{Layout, entries}
-use Rattle.base_definitions.specs.Packed.{packed}
 use Rattle.page_laws.proofs.Firing.{fires_ink, header_of}
 use Rattle.page_laws.proofs.Pages.{fires_strokes, page_says}
 use Rattle.page_laws.proofs.Printed.{commands-spoken, layout_of, read}
@@ -48,8 +48,7 @@ entries-rasters : (ink colour : Ink) (code : List ℕ → List ℕ) (at : ℕ) (
     → ink_rasters_from ink colour (entries code at job) ≡ job_rasters ink colour job
 entries-rasters ink colour code at [] = refl
 entries-rasters ink colour code at (s ∷ job) =
-    ap (λ n. (if same_ink ink colour then raster_count s.command else 0) + n)
-    (entries-rasters ink (colour_after colour s.command) code (at + length (written code s.command s.rows)) job)
+    cc (entries-rasters ink (colour_after colour s.command) code (at + length (written code s.command s.rows)) job)
 
 -- no raster, whatever the colour
 none : (b : Bool) → record { is : (if b then 0 else 0) ≡ 0 + 0 }
@@ -68,20 +67,7 @@ down-rasters ink (suc n) job most rest colour = omega (arith, (none (same_ink in
 -- an ink of a stroke fires at most one raster of its own
 ink-rasters : (w : Layout) (stroke : Stroke) (ink other : Ink) (job : List Spoken) (most : ℕ) → HasMost ink job most
     → HasMost ink (fires_ink w stroke other ++ job) (cond (same_ink ink other) (cond (has_dot (stroke.rows other)) 1 0) 0 + most)
-ink-rasters w stroke ink other job most rest colour = by_dot (has_dot (stroke.rows other)) (same_ink ink other) refl
-  where
-    raster : Spoken
-    raster = record { command = c.Raster (header_of w); rows = flat_map packed (stroke.rows other) }
-
-    by_dot : (b same : Bool) → same_ink ink other ≡ same
-        → job_rasters ink colour ((if b then say (c.Colour other) ∷ say c.Return ∷ raster ∷ [] else []) ++ job)
-        ≤ cond same (cond b 1 0) 0 + most
-    by_dot true same e =
-        let one_if : Bool → ℕ = λ b. if b then 1 else 0 in
-        let last : one_if (same_ink ink other) ≡ one_if same = ap one_if e in
-        omega (arith, (none (same_ink ink colour)).is, (none (same_ink ink other)).is, last, rest other)
-    by_dot false true e = omega (arith, rest colour)
-    by_dot false false e = omega (arith, rest colour)
+ink-rasters w stroke ink other job most rest colour = grind (arith, header_of, job_rasters, none)
 
 -- the inks of a stroke
 inks-rasters : (w : Layout) (stroke : Stroke) (ink : Ink) (inks : List Ink) (job : List Spoken) (most : ℕ) → HasMost ink job most
@@ -89,14 +75,7 @@ inks-rasters : (w : Layout) (stroke : Stroke) (ink : Ink) (inks : List Ink) (job
     (sum_by (λ other. cond (same_ink ink other) (cond (has_dot (stroke.rows other)) 1 0) 0) inks + most)
 inks-rasters w stroke ink [] job most rest colour = omega (arith, rest colour)
 inks-rasters w stroke ink (other ∷ inks) job most rest colour =
-    let term : Ink → ℕ = λ other. cond (same_ink ink other) (cond (has_dot (stroke.rows other)) 1 0) 0 in
-    let later : List Spoken = flat_map (fires_ink w stroke) inks ++ job in
-    let both : job_rasters ink colour (fires_ink w stroke other ++ later) ≤ term other + (sum_by term inks + most) =
-    ink-rasters w stroke ink other later (sum_by term inks + most) (inks-rasters w stroke ink inks job most rest) colour in
-    let same : job_rasters ink colour ((fires_ink w stroke other ++ flat_map (fires_ink w stroke) inks) ++ job)
-    ≡ job_rasters ink colour (fires_ink w stroke other ++ later) =
-    ap (job_rasters ink colour) (append_assoc (fires_ink w stroke other) (flat_map (fires_ink w stroke) inks) job) in
-    omega (arith, same, both, sum_by-cons term other inks)
+    grind (arith, common_steps, append_assoc, fires_ink, ink-rasters, job_rasters, sum_by-cons, inks-rasters w stroke ink inks job most rest)
 
 -- a set has an ink once
 set-once : (set : InkSet) (ink : Ink) (f : Ink → ℕ) → sum_by (λ other. cond (same_ink ink other) (f other) 0) (inks_of set) ≤ f ink
@@ -145,12 +124,7 @@ strokes-rasters w (stroke ∷ strokes) ink last job most rest colour =
 -- some of a list are no more than all of it
 count-some : {X : Type 0} (test some : X → Bool) (xs : List X) → count_by test (filter some xs) ≤ count_by test xs
 count-some test some [] = omega arith
-count-some {X = X} test some (x ∷ xs) = by_head (some x) (count-some test some xs)
-  where
-    by_head : (b : Bool) → count_by test (filter some xs) ≤ count_by test xs
-        → count_by test (cond b (x ∷ filter some xs) (filter some xs)) ≤ count_by test (x ∷ xs)
-    by_head true le = omega (arith, count-cons test x (filter some xs), count-cons test x xs, le)
-    by_head false le = omega (arith, count-cons test x xs, le)
+count-some {X = X} test some (x ∷ xs) = grind (arith, count-cons, count-some test some xs)
 
 -- the whole job of a page
 page-rasters : (w : Layout) (strokes : List Stroke) (ink : Ink)
@@ -185,11 +159,7 @@ strokes-have p h coding strokes tall can is_coding size fire ink =
 entries-all : (code : List ℕ → List ℕ) (at : ℕ) (job : List Spoken)
     → sum_by (λ (e : Entry). raster_count e.command) (entries code at job) ≡ sum_by (λ (s : Spoken). raster_count s.command) job
 entries-all code at [] = refl
-entries-all code at (s ∷ job) =
-    sum_by-cons (λ (e : Entry). raster_count e.command) (record { at = at; command = s.command; rows = s.rows })
-    (entries code (at + length (written code s.command s.rows)) job)
-    ∙ ap (λ n. raster_count s.command + n) (entries-all code (at + length (written code s.command s.rows)) job)
-    ∙ sym (sum_by-cons (λ (s : Spoken). raster_count s.command) s job)
+entries-all code at (s ∷ job) = grind (arith, common_steps, entries, sum_by-cons, entries-all code (at + length (written code s.command s.rows)) job)
 
 -- The bytes of strokes have as many rasters as their commands.
 pub all-rasters : (p : Printer) (h : Halftone) (coding : Coding) (strokes : Strokes) (tall : ℕ)
@@ -197,11 +167,7 @@ pub all-rasters : (p : Printer) (h : Halftone) (coding : Coding) (strokes : Stro
     → sum_by (λ (e : Entry). raster_count e.command)
     (commands (strokes_bytes coding p h.width h.height (tall * row_units p) strokes)).entries
     ≡ sum_by (λ (s : Spoken). raster_count s.command) (page_commands p h.width h.height coding.c (tall * row_units p) strokes)
-all-rasters p h coding strokes tall can is_coding size fire =
-    let job : List Spoken = page_commands p h.width h.height coding.c (tall * row_units p) strokes in
-    ap (λ (j : CommandList). sum_by (λ (e : Entry). raster_count e.command) j.entries)
-    (read coding job (commands-spoken p h coding tall strokes can is_coding size fire))
-    ∙ entries-all coding.code 0 job
+all-rasters p h coding strokes tall can is_coding size fire = simp (commands-spoken, entries-all, read)
 
 -- A page takes no more rasters of an ink than passes.
 pub page-has : (p : Printer) (k : Table) (page : Page) → CanPrint p → IsPage (wanted_by p) page → HasPasses p k page

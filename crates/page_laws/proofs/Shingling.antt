@@ -1,6 +1,7 @@
 -- Shingled passes over a window print its halftone.
+use Rattle.std.proofs.lemmas.Grind.{common_steps}
 use Rattle.std.proofs.Common.{◌≡◌, ℕ, zero, suc, ◌+◌, ◌-◌, ◌*◌, ◌<◌, ◌≤◌, Bool, true, false, cond, not, ◌&&◌, ◌==◌, nat_lt, nat_le}
-use Rattle.std.proofs.Common.{if◌then◌else◌, List, [], ◌∷◌, length, map, replicate, Option, None, Some, refl, sym, ◌∙◌, ap, arith, subst}
+use Rattle.std.proofs.Common.{if◌then◌else◌, List, [], ◌∷◌, length, map, Option, None, Some, refl, sym, ◌∙◌, ap, arith, subst}
 use Rattle.std.specs.List.{AllByRecursion, count_by, flat_map, list_any}
 use Rattle.std.specs.Prelude.{slice_index_or}
 use Rattle.std.proofs.lemmas.Bool.{and_right, eqb-true, lt-ltb}
@@ -11,16 +12,16 @@ use Rattle.std.proofs.Math.Nat.{mul-le-mul_right}
 use Rattle.std.proofs.lemmas.Nat.{div-add-mod'}
 use Rattle.printer_definitions.specs.declared.inks.Ink.{Ink}
 use Rattle.printer_definitions.specs.Inks.{inks_of}
-use Rattle.printer_definitions.specs.Printer.{Printer, head_rows, row_units}
+use Rattle.printer_definitions.specs.Printer.{Printer, row_units}
 use Rattle.base_definitions.specs.Counting.{count_from}
 use Rattle.base_definitions.specs.Packed.{at}
 use Rattle.escp2_definitions.specs.Commands.{commands}
 use Rattle.escp2_definitions.specs.Rasters.{ink_rasters}
 use Rattle.separation_definitions.specs.CanPrint.{CanPrint}
 use Rattle.page_definitions.specs.Dots.{Halftone}
-use Rattle.page_definitions.specs.PageBytes.{dot_row, fired_row, page_coding}
+use Rattle.page_definitions.specs.PageBytes.{fired_row, page_coding}
 use Rattle.page_definitions.specs.RasterRows.{FiresHalf, RasterRows, StrokeRows}
-use Rattle.page_definitions.specs.Shingled.{every_other, shingled, shingled_bytes, shingled_row, shingled_stroke}
+use Rattle.page_definitions.specs.Shingled.{shingled, shingled_bytes, shingled_row, shingled_stroke}
 use Rattle.page_definitions.specs.Strokes.{Fires, IsOnWindow, IsRising, IsWhole, Stroke}
 use Rattle.shingle_plan.specs.Fits.{Shingles}
 use Rattle.shingle_plan.specs.Shingles.{Shingle, fires_even, half, rows_above, shingle, shingle_count, shingle_row}
@@ -60,40 +61,8 @@ one-counts false keep false = refl
 nozzle-hits : (test : Shingle → Bool) (p : Printer) (h : Halftone) (ink : Ink) (y x t i : ℕ) → Finds test p.nozzles y x → x < h.width
     → cond ((t * half p.nozzles + i * p.pitch - rows_above p.nozzles p.pitch == y) && at (shingled_row p h t ink i) x) 1 0
     ≡ cond (h.dot ink y x) (count_by test (of_nozzle p h t i)) 0
-nozzle-hits test p h ink y x t i finds low = by_row (shingle_row p.nozzles p.pitch h.height t i) refl
-  where
-    even : Bool
-    even = fires_even p.nozzles i
-
-    place : ℕ
-    place = t * half p.nozzles + i * p.pitch - rows_above p.nozzles p.pitch
-
-    one_if : Bool → ℕ
-    one_if b = cond b 1 0
-
-    by_same : (row : ℕ) (b : Bool) → (row == y) ≡ b
-        → one_if (b && (kept even x && h.dot ink row x)) ≡ cond (h.dot ink y x) (one_if (b && kept even x) + 0) 0
-    by_same row true e =
-        ap (λ k. one_if (kept even x && h.dot ink k x)) (eqb-true row y e) ∙ one-counts true (kept even x) (h.dot ink y x)
-    by_same row false e = one-counts false (kept even x) (h.dot ink y x)
-
-    by_row : (r : Option ℕ) → shingle_row p.nozzles p.pitch h.height t i ≡ r
-        → one_if ((place == y) && at (every_other even (fired_row h ink r)) x) ≡ cond (h.dot ink y x) (count_by test (shingle t i even r)) 0
-    by_row None e =
-        let none : at (every_other even (replicate h.width false)) x ≡ false =
-        at-other even (replicate h.width false) x ∙ and_right (kept even x) (at (replicate h.width false) x) (no-dot h.width x) in
-        ap one_if (and_right (place == y) (at (every_other even (replicate h.width false)) x) none)
-        ∙ sym (if-none (h.dot ink y x) 0 refl)
-    by_row (Some row) e =
-        let is = lands p.nozzles p.pitch h.height t i row e in
-        let stands : place ≡ row = omega (arith, is.sum) in
-        let column : 0 + x ≡ x = omega arith in
-        let dot : at (dot_row h ink row) x ≡ h.dot ink row x = at-counted (h.dot ink row) 0 h.width x low ∙ ap (h.dot ink row) column in
-        let one : Shingle = record { pass = t; nozzle = i; row = row; even = even } in
-        ap (λ n. one_if ((n == y) && at (every_other even (dot_row h ink row)) x)) stands
-        ∙ ap (λ b. one_if ((row == y) && b)) (at-other even (dot_row h ink row) x ∙ ap (λ b. kept even x && b) dot)
-        ∙ by_same row (row == y) refl
-        ∙ sym (ap (λ n. cond (h.dot ink y x) n 0) (count-cons test one [] ∙ ap (λ b. one_if b + 0) (finds t i row)))
+nozzle-hits test p h ink y x t i finds low =
+    grind (arith, and_right, at-counted, at-other, count-cons, eqb-true, if-none, kept, lands, no-dot, one-counts)
 
 -- the nozzles of one pass
 pass-hits : (test : Shingle → Bool) (p : Printer) (h : Halftone) (ink : Ink) (y x t start i many : ℕ) → Finds test p.nozzles y x → x < h.width
@@ -120,40 +89,19 @@ passes-hit : (test : Shingle → Bool) (p : Printer) (h : Halftone) (ink : Ink) 
     ≡ cond (h.dot ink y x) (count_by test (flat_map (λ t. flat_map (of_nozzle p h t) (count_from 0 p.nozzles)) ts)) 0
 passes-hit test p h ink y x [] finds low = sym (if-none (h.dot ink y x) 0 refl)
 passes-hit test p h ink y x (t ∷ ts) finds low =
-    let above : ℕ = rows_above p.nozzles p.pitch in
-    let of : ℕ → List Shingle = λ t. flat_map (of_nozzle p h t) (count_from 0 p.nozzles) in
-    let dot : Bool = h.dot ink y x in
-    let first : t * half p.nozzles ≡ t * half p.nozzles + 0 * p.pitch = omega arith in
-    sum_by-cons (λ (stroke : Stroke). rows_hits p.pitch above y x stroke.start (stroke.rows ink))
-    (shingled_stroke p h t) (map (shingled_stroke p h) ts)
-    ∙ ap (λ n. n + hits p above (map (shingled_stroke p h) ts) ink y x)
-    (pass-hits test p h ink y x t (t * half p.nozzles) 0 p.nozzles finds low first)
-    ∙ ap (λ n. cond dot (count_by test (of t)) 0 + n) (passes-hit test p h ink y x ts finds low)
-    ∙ if-plus dot (count_by test (of t)) (count_by test (flat_map of ts))
-    ∙ ap (λ n. cond dot n 0) (sym (count-append test (of t) (flat_map of ts)))
+    grind (arith, common_steps, count-append, hits, if-plus, of_nozzle, pass-hits, rows_hits, sum_by-cons, passes-hit test p h ink y x ts finds low)
 
 -- ---- the law's tests find the shingles of a column
 
 -- those with even columns, at an even column
 even-finds : (n y x : ℕ) → kept true x ≡ true
     → Finds (λ (f : Shingle). f.row == y && (nat_le (half n) f.nozzle && f.even)) n y x
-even-finds n y x e t i row = ap (λ b. (row == y) && b) (by_half (fires_even n i))
-  where
-    by_half : (b : Bool) → (b && b) ≡ kept b x
-    by_half true = sym e
-    by_half false = sym (kept-not true x ∙ ap not e)
+even-finds n y x e t i row = grind (arith, kept, kept-not)
 
 -- those with odd columns, at an odd column
 odd-finds : (n y x : ℕ) → kept true x ≡ false
     → Finds (λ (f : Shingle). f.row == y && (nat_lt f.nozzle (half n) && not f.even)) n y x
-odd-finds n y x e t i row = ap (λ b. (row == y) && b) (ap (λ b. b && not (fires_even n i)) (nat-lt-not i (half n)) ∙ by_half (fires_even n i))
-  where
-    by_half : (b : Bool) → (not b && not b) ≡ kept b x
-    by_half true = sym e
-    by_half false = sym (kept-not true x ∙ ap not e)
-
-    nat-lt-not : (i a : ℕ) → nat_lt i a ≡ not (nat_le a i)
-    nat-lt-not i a = grind (arith, nat_tests)
+odd-finds n y x e t i row = grind (arith, kept, kept-not, nat_tests)
 
 -- the passes fire each dot once
 shingles-hit : (p : Printer) (h : Halftone) → Shingles p.nozzles p.pitch → FiresEachDot p h (shingled p h)
@@ -201,17 +149,10 @@ each-stroke p h P (t ∷ ts) every = (every t, each-stroke p h P ts every)
 -- one row for each nozzle, as wide as the window
 rows-wide : (p : Printer) (h : Halftone) (t : ℕ) (ink : Ink) (is : List ℕ) → AllWide h.width (map (shingled_row p h t ink) is)
 rows-wide p h t ink [] = tt
-rows-wide p h t ink (i ∷ is) = (
-  other-len (fires_even p.nozzles i) (fired_row h ink (shingle_row p.nozzles p.pitch h.height t i))
-      ∙ fired_row-len h ink (shingle_row p.nozzles p.pitch h.height t i),
-  rows-wide p h t ink is,
-)
+rows-wide p h t ink (i ∷ is) = grind (arith, fired_row-len, other-len, rows-wide p h t ink is)
 
 stroke-whole : (p : Printer) (h : Halftone) (t : ℕ) (ink : Ink) → IsWhole p.nozzles h.width ((shingled_stroke p h t).rows ink)
-stroke-whole p h t ink = record {
-  many = length-map (count_from 0 p.nozzles) (shingled_row p h t ink) ∙ count_from-len 0 p.nozzles;
-  wide = rows-wide p h t ink (count_from 0 p.nozzles);
-}
+stroke-whole p h t ink = grind (arith, count_from-len, length-map, rows-wide)
 
 -- the row at a counted place
 pub counted-row : (f : ℕ → List Bool) (n many i : ℕ) → i < many → slice_index_or (map f (count_from n many)) i [] ≡ f (n + i)
@@ -235,24 +176,11 @@ fired-some h ink (Some y) e = (y, refl)
 -- a pass fires only on the window
 stroke-on_window : (p : Printer) (h : Halftone) (t : ℕ) (ink : Ink)
     → IsOnWindow p.pitch (rows_above p.nozzles p.pitch) h.height (t * half p.nozzles) ((shingled_stroke p h t).rows ink)
-stroke-on_window p h t ink = record {
-  row = λ i e.
-      let low : i < p.nozzles = counted-any (shingled_row p h t ink) 0 p.nozzles i e in
-      let place : 0 + i ≡ i = omega arith in
-      let same : slice_index_or (map (shingled_row p h t ink) (count_from 0 p.nozzles)) i [] ≡ shingled_row p h t ink i =
-      counted-row (shingled_row p h t ink) 0 p.nozzles i low ∙ ap (shingled_row p h t ink) place in
-      let row : Option ℕ = shingle_row p.nozzles p.pitch h.height t i in
-      let some = fired-some h ink row (other-any (fires_even p.nozzles i) (fired_row h ink row) (ap (list_any (λ on. on)) (sym same) ∙ e)) in
-      let is = lands p.nozzles p.pitch h.height t i some.0 some.1 in
-      (omega (arith, is.sum), omega (arith, is.sum, is.low));
-}
+stroke-on_window p h t ink = grind (arith, counted-any, counted-row, fired-some, lands, other-any)
 
 -- The head begins no higher than one that fires by all its nozzles, so that there is room for it.
 pub above-room : (p : Printer) → CanPrint p → Shingles p.nozzles p.pitch → rows_above p.nozzles p.pitch ≤ p.top
-above-room p can fits =
-    let fewer : 2 * half p.nozzles - 1 ≤ p.nozzles - 1 = omega (arith, div-add-mod' p.nozzles 2) in
-    let less : rows_above p.nozzles p.pitch ≤ head_rows p = mul-le-mul_right p.pitch fewer in
-    omega (arith, less, can.head_room)
+above-room p can fits = grind (arith, div-add-mod', mul-le-mul_right)
 
 -- Shingled passes over a window print its halftone.
 pub shingles-fire : (p : Printer) (h : Halftone) → CanPrint p → Shingles p.nozzles p.pitch → Fires p h (shingled p h)

@@ -1,18 +1,18 @@
 -- The commands of a page are in the command table, so that their bytes spell them.
-use Rattle.std.proofs.Common.{◌≡◌, ℕ, zero, suc, ◌+◌, ◌-◌, ◌*◌, ◌/◌, ◌≤◌, inl, inr, Bool, true, false, ◌&&◌, nat_le, if◌then◌else◌, List}
-use Rattle.std.proofs.Common.{[], ◌∷◌, ◌++◌, length, refl, ◌∙◌, ap, arith, length-append, filter, flat_map}
+use Rattle.std.proofs.Common.{◌≡◌, ℕ, zero, suc, ◌+◌, ◌-◌, ◌*◌, ◌/◌, ◌≤◌, inl, inr, Bool, true, ◌&&◌, nat_le, if◌then◌else◌, List}
+use Rattle.std.proofs.Common.{[], ◌∷◌, ◌++◌, length, refl, ◌∙◌, arith, length-append, filter, flat_map}
 use Rattle.std.specs.List.{AllByRecursion}
 use Rattle.std.proofs.lemmas.Bool.{and_from, le-leb}
 use Rattle.printer_definitions.specs.declared.inks.Ink.{Ink}
 use Rattle.printer_definitions.specs.Inks.{inks_of}
-use Rattle.printer_definitions.specs.Printer.{Printer, column_step, nozzle_step, row_units}
+use Rattle.printer_definitions.specs.Printer.{row_units}
 use Rattle.escp2_definitions.specs.declared.command.Command.TheVariants as c
 use Rattle.escp2_definitions.specs.Commands.{Spells, in_table, is_between, rows_len}
 use Rattle.base_definitions.specs.Packed.{packed}
 use Rattle.escp2_definitions.specs.Written.{Coding, IsCoding, written}
 use Rattle.escp2_laws.specs.Coded.{HasCoding}
 use Rattle.escp2_laws.proofs.Written.{written-spells}
-use Rattle.page_definitions.specs.Strokes.{Spoken, Stroke, down_by, fires, has_dot, say}
+use Rattle.page_definitions.specs.Strokes.{Spoken, Stroke, down_by, fires}
 use Rattle.page_laws.proofs.Numbers.{column_step-some, length-fits, margins-fit, nozzle_step-some, step-fits}
 use Rattle.page_laws.proofs.Fired.{AllWide, packed-len}
 use Rattle.page_laws.proofs.Running.{IsLayout, Layout, begins, first_of, last_of, len_of}
@@ -49,43 +49,12 @@ down-sayable coding (suc n) low = (record { in_range = le-leb (suc n) 32767 low;
 
 -- the prologue
 prologue-sayable : (w : Layout) → IsLayout w → AllSayable w.coding (begins w)
-prologue-sayable w is =
-    let length_fits = length-fits w.printer w.halftone w.tall is.can is.size in
-    let fits = margins-fit w.printer w.halftone w.above w.tall is.can is.size in
-    let top : nat_le (first_of w) 32767 ≡ true = le-leb (first_of w) 32767 (omega (arith, fits.0, fits.1)) in
-    let bottom : is_between (first_of w + 1) 32767 (last_of w) ≡ true =
-    between (first_of w + 1) 32767 (last_of w) (omega (arith, fits.0)) (omega (arith, fits.1)) in (
-      record { in_range = refl; rows_fit = refl; coded = tt },
-      (
-        record { in_range = refl; rows_fit = refl; coded = tt },
-        (
-          record { in_range = refl; rows_fit = refl; coded = tt },
-          (
-            record { in_range = refl; rows_fit = refl; coded = tt },
-            (
-              record { in_range = refl; rows_fit = refl; coded = tt },
-              (
-                record { in_range = between 1 32767 (len_of w) length_fits.0 length_fits.1; rows_fit = refl; coded = tt },
-                (
-                  record { in_range = and_from _ _ top bottom; rows_fit = refl; coded = tt },
-                  (record { in_range = refl; rows_fit = refl; coded = tt }, tt),
-                ),
-              ),
-            ),
-          ),
-        ),
-      ),
-    )
+prologue-sayable w is = grind (arith, and_from, between, first_of, last_of, le-leb, len_of, length-fits, margins-fit)
 
 -- the bytes of packed rows
 pub rows-len : (width : ℕ) (rows : List (List Bool)) → AllWide width rows → length (flat_map packed rows) ≡ length rows * ((width + 7) / 8)
 rows-len width [] wide = let none : 0 ≡ 0 * ((width + 7) / 8) = omega arith in none
-rows-len width (row ∷ rows) wide =
-    let bytes : ℕ = (width + 7) / 8 in
-    let more : length (flat_map packed rows) ≡ length rows * bytes = rows-len width rows wide.1 in
-    let step : bytes + length rows * bytes ≡ suc (length rows) * bytes = omega arith in
-    length-append (packed row) (flat_map packed rows)
-    ∙ ap (λ n. n + length (flat_map packed rows)) (packed-len width row wide.0) ∙ ap (λ n. bytes + n) more ∙ step
+rows-len width (row ∷ rows) wide = grind (arith, length-append, packed-len, rows-len width rows wide.1)
 
 -- a coding says 0 or 1
 coding-says : (coding : Coding) → IsCoding coding → nat_le coding.c 1 ≡ true
@@ -94,40 +63,8 @@ coding-says coding (inr e) = le-leb coding.c 1 (omega (arith, e.0))
 
 -- an ink of a stroke
 ink-sayable : (w : Layout) (stroke : Stroke) (ink : Ink) → IsLayout w → Lies w stroke → AllSayable w.coding (fires_ink w stroke ink)
-ink-sayable w stroke ink is lies = by_dot (has_dot (stroke.rows ink))
-  where
-    rows : List ℕ
-    rows = flat_map packed (stroke.rows ink)
-
-    by_dot : (b : Bool) → AllSayable w.coding (if b then say (c.Colour ink)
-        ∷ say c.Return ∷ record { command = c.Raster (header_of w); rows = rows } ∷ [] else [])
-    by_dot false = tt
-    by_dot true =
-        let p : Printer = w.printer in
-        let n : ℕ = w.coding.c in
-        let v : (nat_le n 1 && nat_le 1 (nozzle_step p)) ≡ true =
-        and_from _ _ (coding-says w.coding is.coding) (le-leb 1 (nozzle_step p) (nozzle_step-some p is.can)) in
-        let hs : (nat_le n 1 && nat_le 1 (nozzle_step p) && nat_le 1 (column_step p)) ≡ true =
-        and_from _ _ v (le-leb 1 (column_step p) (column_step-some p is.can)) in
-        let m : (nat_le n 1 && nat_le 1 (nozzle_step p) && nat_le 1 (column_step p) && nat_le 1 p.nozzles) ≡ true =
-        and_from _ _ hs (le-leb 1 p.nozzles is.can.some_nozzles) in
-        let bytes : ℕ = (w.halftone.width + 7) / 8 in
-        let fits : length rows ≡ p.nozzles * bytes = rows-len w.halftone.width (stroke.rows ink) (lies.whole ink).wide
-        ∙ ap (λ n. n * bytes) (lies.whole ink).many in (
-          record { in_range = refl; rows_fit = refl; coded = tt },
-          (
-            record { in_range = refl; rows_fit = refl; coded = tt },
-            (
-              record {
-                in_range = and_from _ _ m (between 1 8191
-                    w.halftone.width is.size.some_width is.size.most_width);
-                rows_fit = fits;
-                coded = refl;
-              },
-              tt,
-            ),
-          ),
-        )
+ink-sayable w stroke ink is lies =
+    grind (arith, AllSayable, and_from, between, coding-says, column_step-some, header_of, le-leb, nozzle_step-some, rows-len)
 
 -- the inks of a stroke
 inks-sayable : (w : Layout) (stroke : Stroke) (inks : List Ink)
@@ -150,11 +87,7 @@ strokes-sayable w (stroke ∷ strokes) last is lie =
 -- Each command of a page is in the table.
 pub page-sayable : (w : Layout) (strokes : List Stroke) → IsLayout w
     → AllByRecursion (Lies w) (filter (fires w.printer) strokes) → AllSayable w.coding (page_says w strokes)
-page-sayable w strokes is lie =
-    sayable-append w.coding (begins w) _ (prologue-sayable w is)
-    (sayable-append w.coding (fires_strokes w 0 (filter (fires w.printer) strokes)) _
-    (strokes-sayable w (filter (fires w.printer) strokes) 0 is lie)
-    (record { in_range = refl; rows_fit = refl; coded = tt }, (record { in_range = refl; rows_fit = refl; coded = tt }, tt)))
+page-sayable w strokes is lie = grind (arith, begins, fires_strokes, prologue-sayable, sayable-append, strokes-sayable)
 
 -- ---- they are spelled
 

@@ -9,7 +9,7 @@ use Rattle.printer_definitions.specs.Inks.{inks_of}
 use Rattle.printer_definitions.specs.Printer.{Printer}
 use Rattle.escp2_definitions.specs.Machine.{Dot, is_at}
 use Rattle.base_definitions.specs.Packed.{at}
-use Rattle.page_definitions.specs.Dots.{Halftone, dots_wanted, ink_wanted, pixel_dots, place_of, row_wanted}
+use Rattle.page_definitions.specs.Dots.{Halftone, dots_wanted, place_of}
 use Rattle.page_definitions.specs.Strokes.{row_fired}
 use Rattle.base_definitions.specs.Counting.{count_from}
 use Rattle.weave_definitions.proofs.Firings.{count-flat}
@@ -37,11 +37,7 @@ total-same test height width f g same =
 
 -- numbers that are 0 on the window
 pub total-none : (test : ℕ → ℕ → Bool) (height width : ℕ) (f : ℕ → ℕ → ℕ) → ((y x : ℕ) → f y x ≡ 0) → total test height width f ≡ 0
-total-none test height width f none =
-    sum-none (λ y. sum_by (λ x. cond (test y x) (f y x) 0) (count_from 0 width)) (count_from 0 height)
-    (each-of (λ y. sum_by (λ x. cond (test y x) (f y x) 0) (count_from 0 width) ≡ 0) (count_from 0 height)
-    (λ y. sum-none (λ x. cond (test y x) (f y x) 0) (count_from 0 width) (each-of
-    (λ x. cond (test y x) (f y x) 0 ≡ 0) (count_from 0 width) (λ x. if-none (test y x) (f y x) (none y x)))))
+total-none test height width f none = simp (each-of, if-none, sum-none)
 
 -- the sum of sums of two numbers
 pub total-plus : (test : ℕ → ℕ → Bool) (height width : ℕ) (f g : ℕ → ℕ → ℕ)
@@ -67,13 +63,7 @@ blank-at (false ∷ row) (suc x) e = blank-at row x e
 
 -- a dot, where there is one, passes a test or does not
 dot-count : (test : Dot → Bool) (d : Dot) (b : Bool) → count_by test (if b then d ∷ [] else []) ≡ cond (test d) (cond b 1 0) 0
-dot-count test d b = by_dot b (test d) (count-cons test d [])
-  where
-    by_dot : (b t : Bool) → count_by test (d ∷ []) ≡ cond t 1 0 + 0 → count_by test (if b then d ∷ [] else []) ≡ cond t (cond b 1 0) 0
-    by_dot true true e = omega arith
-    by_dot true false e = omega arith
-    by_dot false true e = refl
-    by_dot false false e = refl
+dot-count test d b = grind (arith, count-cons)
 
 -- the dots of a row at a place on paper, column by column
 row-count : (p : Printer) (d : Dot) (ink : Ink) (y x : ℕ) (on : ℕ → Bool) (row : List Bool) → ((j : ℕ) → at row j ≡ on (x + j))
@@ -136,20 +126,4 @@ row-total p d ink height width y row wide low =
 pub wanted-total : (p : Printer) (h : Halftone) (test : Dot → Bool)
     → count_by test (dots_wanted p h) ≡ sum_by (λ ink.
     total (λ y x. test (place_of p ink y x)) h.height h.width (λ y x. cond (h.dot ink y x) 1 0)) (inks_of p.inks)
-wanted-total p h test =
-    count-flat test (ink_wanted p h) (inks_of p.inks)
-    ∙ sum-same (λ ink. count_by test (ink_wanted p h ink)) of (inks_of p.inks)
-    (each-of (λ ink. count_by test (ink_wanted p h ink) ≡ of ink) (inks_of p.inks) (λ ink.
-    count-flat test (row_wanted p h ink) (count_from 0 h.height)
-    ∙ sum-same (λ y. count_by test (row_wanted p h ink y)) (λ y. sum_by (term ink y) (count_from 0 h.width)) (count_from 0 h.height)
-    (each-of (λ y. count_by test (row_wanted p h ink y) ≡ sum_by (term ink y) (count_from 0 h.width)) (count_from 0 h.height) (λ y.
-    count-flat test (pixel_dots p h ink y) (count_from 0 h.width)
-    ∙ sum-same (λ x. count_by test (pixel_dots p h ink y x)) (term ink y) (count_from 0 h.width)
-    (each-of (λ x. count_by test (pixel_dots p h ink y x) ≡ term ink y x) (count_from 0 h.width)
-    (λ x. dot-count test (place_of p ink y x) (h.dot ink y x)))))))
-  where
-    term : Ink → ℕ → ℕ → ℕ
-    term ink y x = cond (test (place_of p ink y x)) (cond (h.dot ink y x) 1 0) 0
-
-    of : Ink → ℕ
-    of ink = total (λ y x. test (place_of p ink y x)) h.height h.width (λ y x. cond (h.dot ink y x) 1 0)
+wanted-total p h test = simp (count-flat, dot-count, each-of, sum-same, total)

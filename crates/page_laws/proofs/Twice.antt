@@ -1,5 +1,6 @@
 -- No dot is fired twice.
-use Rattle.std.proofs.Common.{◌≡◌, ◌+◌, ◌≤◌, Bool, true, false, List, [], ◌∷◌, ◌++◌, refl, ◌∙◌, ap, arith, cond}
+use Rattle.std.proofs.lemmas.Grind.{common_steps}
+use Rattle.std.proofs.Common.{◌≡◌, ◌+◌, ◌≤◌, true, false, List, [], ◌∷◌, ◌++◌, refl, ◌∙◌, ap, arith, cond}
 use Rattle.std.specs.List.{count_by, list_any}
 use Rattle.std.proofs.lemmas.Bool.{and_from, eq-eqb}
 use Rattle.printer_definitions.specs.Inks.{ink_place}
@@ -15,18 +16,7 @@ is_at-itself d = and_from _ _ (and_from _ _ (eq-eqb (ink_place d.ink) (ink_place
 -- where a place has no dot, none is found
 free : (d : Dot) (old : List Dot) → count_by (is_at d) old ≡ 0 → list_any (is_at d) old ≡ false
 free d [] e = refl
-free d (o ∷ old) e = by_head (is_at d o) refl (free d old)
-  where
-    by_head : (b : Bool) → is_at d o ≡ b
-        → (count_by (is_at d) old ≡ 0 → list_any (is_at d) old ≡ false) → list_any (is_at d) (o ∷ old) ≡ false
-    by_head true f rest =
-        let count : count_by (is_at d) (o ∷ old) ≡ 1 + count_by (is_at d) old =
-        count-cons (is_at d) o old ∙ ap (λ b. cond b 1 0 + count_by (is_at d) old) f in
-        absurd (omega arith)
-    by_head false f rest =
-        let count : count_by (is_at d) (o ∷ old) ≡ 0 + count_by (is_at d) old =
-        count-cons (is_at d) o old ∙ ap (λ b. cond b 1 0 + count_by (is_at d) old) f in
-        none-of (is_at d) o old f (rest (omega arith))
+free d (o ∷ old) e = grind (arith, common_steps, count-cons, none-of, free d old)
 
 -- dots with each place at most once in both lists together overprint nothing
 none-over : (old new : List Dot) → ((d : Dot) → count_by (is_at d) old + count_by (is_at d) new ≤ 1) → overprints old new ≡ false

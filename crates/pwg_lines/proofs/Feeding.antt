@@ -1,34 +1,25 @@
 -- The calls of a reader: what is read of a piece so far.
-use Rattle.std.proofs.Common.{◌≡◌, ℕ, zero, suc, ◌+◌, ◌-◌, ◌*◌, ◌≤◌, if◌then◌else◌, IsTrue, List, [], ◌++◌, length, take, drop, Some, refl}
-use Rattle.std.proofs.Common.{sym, ◌∙◌, ap, subst, arith, append_assoc, length-append, length-drop}
+use Rattle.std.proofs.Common.{◌≡◌, ℕ, zero, suc, ◌+◌, ◌-◌, ◌*◌, ◌≤◌, if◌then◌else◌, List, [], ◌++◌, length, take, drop, Some, refl}
+use Rattle.std.proofs.Common.{◌∙◌, ap, arith, append_assoc, length-append, length-drop}
 use Rattle.std.proofs.lemmas.Bool.{lt-ltb}
 use Rattle.std.proofs.lemmas.List.{append-nil, length-take-le, take_all}
 use Rattle.std.proofs.Math.Seq.{take-add}
 use Rattle.pwg_definitions.specs.declared.faults.LineFault.{LineFault}
-use Rattle.pwg_definitions.specs.Header.{KindRow, line_units, row_of}
+use Rattle.pwg_definitions.specs.Header.{KindRow}
 use Rattle.pwg_definitions.specs.Groups.{GroupFront, copies, group_at, line_at}
-use Rattle.pwg_definitions.specs.Groups.GroupRead.{Group, Part, Wrong}
+use Rattle.pwg_definitions.specs.Groups.GroupRead.{Part, Wrong}
 use Rattle.pwg_lines.specs.declared.reader.LineReader.{LineReader}
 use Rattle.pwg_lines.specs.declared.states.State.{State}
 use Rattle.pwg_lines.specs.declared.states.State.TheVariants as state
 use Rattle.pwg_lines.specs.declared.answers.Fill.{Fill}
-use Rattle.pwg_lines.specs.States.{IsAt, IsOpen, Stands, longer, pending, read_behind, read_on}
-use Rattle.pwg_lines.specs.Reading.{Ends, IsAnew, IsFault, IsLine, IsMore, StandsFor, Takes, fault_in, fault_of, is_start, line_of}
+use Rattle.pwg_lines.specs.States.{IsAt, IsOpen, Stands, longer, read_behind, read_on}
+use Rattle.pwg_lines.specs.Reading.{Ends, IsAnew, IsFault, IsLine, IsMore, StandsFor, Takes, fault_in, fault_of}
 use Rattle.pwg_lines.specs.Reading.{next_group}
 use Rattle.pwg_lines.proofs.Steps.{front_of, in_state}
 
 -- a reader before a group stands for no bytes
 pub anew_stands : (reader : LineReader) → IsAnew reader → StandsFor reader []
-anew_stands reader fresh = in_state _ _ _ (sym (is_start-is reader.state fresh))
-    (record { at = refl; most = reader.left; enough = omega arith; is = λ rest. refl })
-  where
-    is_start-is : (s : State) → IsTrue (is_start s) → s ≡ state.Start
-    is_start-is state.Start e = refl
-    is_start-is state.Packet e = cc
-    is_start-is (state.Run units read) e = cc
-    is_start-is (state.Literal bytes) e = cc
-    is_start-is state.Full e = cc
-    is_start-is (state.Failed fault) e = cc
+anew_stands reader fresh = grind (arith, in_state)
 
 -- This many bytes of the piece are read.
 pub record FedSoFar (old now : LineReader) (piece : List ℕ) (used : ℕ) : Type 0 where
@@ -55,20 +46,7 @@ still_open (state.Failed fault) full failed = failed fault refl
 -- and this many more
 pub feed_step : {old now new : LineReader} {piece : List ℕ} (rest : List ℕ) {used more : ℕ} → FedSoFar old now piece used → IsOpen now.state
     → rest ≡ drop used piece → more ≤ length rest → Takes now new (take more rest) → FedSoFar old new piece (used + more)
-feed_step {now} {new} {piece} rest {used} {more} so_far is_open behind fits takes = record {
-  within = omega (arith, so_far.within, length-drop used piece, ap length behind);
-  takes = record {
-    form = takes.form ∙ so_far.takes.form;
-    lines_left = takes.lines_left ∙ so_far.takes.lines_left;
-    stands = λ sofar stood.
-        let joined : (sofar ++ take used piece) ++ take more rest ≡ sofar ++ take (used + more) piece =
-        append_assoc sofar (take used piece) (take more rest) ∙ ap (λ bs. sofar ++ (take used piece ++ take more bs)) behind
-        ∙ ap (λ bs. sofar ++ bs) (sym (take-add used more piece)) in
-        let P : List ℕ → Type 0 = StandsFor new in
-        subst P joined (takes.stands (sofar ++ take used piece) (so_far.takes.stands sofar stood));
-  };
-  again = λ fault e. absurd (open-no_fault now.state fault is_open (ap fault_of (so_far.again fault e).1 ∙ e));
-}
+feed_step {now} {new} {piece} rest {used} {more} so_far is_open behind fits takes = grind (arith, append_assoc, length-drop, open-no_fault, take-add)
 
 nothing_behind : (row : KindRow) (most left : ℕ) (front : GroupFront) (makes : List ℕ → List ℕ) (count : ℕ) → 1 ≤ count
     → read_behind row most left front makes count [] ≡ Part
@@ -99,29 +77,11 @@ nothing_known {row} {units} {lines} {repeats} {left} {s} {line} {part} {sofar} h
 -- the group is read as its reader reads it, in a page of the same form
 same_group : (old now : LineReader) (bytes : List ℕ) → now.form ≡ old.form → now.lines_left ≡ old.lines_left
     → next_group old bytes ≡ next_group now bytes
-same_group old now bytes form lines =
-    ap (λ f. group_at (row_of f.kind) (line_units (row_of f.kind) f.width) old.lines_left bytes) (sym form)
-    ∙ ap (λ k. group_at (row_of now.form.kind) (line_units (row_of now.form.kind) now.form.width) k bytes) (sym lines)
+same_group old now bytes form lines = cc
 
 pub feed_more : (old now : LineReader) (piece : List ℕ) (used : ℕ) → FedSoFar old now piece used → IsOpen now.state → used ≡ length piece
     → IsMore old now piece used
-feed_more old now piece used so_far is_open all = record {
-  all = all;
-  lines_left = so_far.takes.lines_left;
-  part = part;
-  stands = stands;
-}
-  where
-    stands : (sofar : List ℕ) → StandsFor old sofar → StandsFor now (sofar ++ piece)
-    stands sofar stood = let P : List ℕ → Type 0 = λ bs. StandsFor now (sofar ++ bs) in
-        subst P (take_all used piece (omega arith)) (so_far.takes.stands sofar stood)
-
-    part : (sofar : List ℕ) → StandsFor old sofar → next_group old (sofar ++ piece) ≡ Part
-    part sofar stood =
-        let here : StandsFor now (sofar ++ piece) = stands sofar stood in
-        same_group old now (sofar ++ piece) so_far.takes.form so_far.takes.lines_left
-        ∙ ap (next_group now) (sym (append-nil (sofar ++ piece)))
-        ∙ nothing_known here is_open
+feed_more old now piece used so_far is_open all = grind (arith, append-nil, nothing_known, same_group, take_all)
 
 pub feed_fault : (old now : LineReader) (piece : List ℕ) (used : ℕ) (fault : LineFault) → FedSoFar old now piece used
     → now.state ≡ state.Failed fault
@@ -148,32 +108,12 @@ feed_fault old now piece used fault so_far failed = record {
 
 -- where no unit is left, the line is filled
 full_line : (now : LineReader) → now.state ≡ state.Full → now.left ≡ 0 → length now.line.items ≤ now.filled
-full_line now full none =
-    let none_pending : pending (row_of now.form.kind) now.state ≡ 0 = ap (pending (row_of now.form.kind)) full in
-    let none_left : now.left * (row_of now.form.kind).unit ≡ 0 = ap (λ k. k * (row_of now.form.kind).unit) none ∙ omega arith in
-    omega (arith, now.fits, none_pending, none_left)
+full_line now full none = grind arith
 
 pub feed_line : {old now new : LineReader} {answer : Fill} {piece : List ℕ} {used : ℕ} → FedSoFar old now piece used
     → now.state ≡ state.Full → Ends now new answer
     → IsLine old new piece used now.repeats
-feed_line {old} {now} {new} {piece} {used} so_far full ends = record {
-  some = ends.some;
-  fall = ends.fall ∙ so_far.takes.lines_left;
-  group = group;
-  anew = anew_stands new ends.fresh;
-  fresh = ends.fresh;
-}
-  where
-    group : (sofar rest : List ℕ) → StandsFor old sofar
-        → next_group old (sofar ++ take used piece ++ rest) ≡ Group now.repeats (line_of new) rest
-    group sofar rest stood =
-        let read : List ℕ = sofar ++ take used piece in
-        let here : Stands _ _ _ state.Full _ _ _ _ read = in_state _ _ _ full (so_far.takes.stands sofar stood) in
-        let whole : take now.filled now.line.items ≡ now.line.items =
-        take_all now.filled now.line.items (omega (arith, full_line now full here.at)) in
-        same_group old now (read ++ rest) so_far.takes.form so_far.takes.lines_left
-        ∙ here.is rest
-        ∙ ap (λ bs. Group now.repeats bs rest) (whole ∙ sym ends.line)
+feed_line {old} {now} {new} {piece} {used} so_far full ends = grind (arith, anew_stands, full_line, in_state, same_group, take_all)
 
 pub again-open : (old now : LineReader) (piece : List ℕ) (used : ℕ) (fault : LineFault) → FedSoFar old now piece used → IsOpen now.state
     → fault_of old ≡ Some fault → ⊥

@@ -1,4 +1,5 @@
 -- Copies of a unit in a line.
+use Rattle.std.proofs.lemmas.Grind.{common_steps}
 use Rattle.std.proofs.Common.{◌≡◌, ℕ, zero, suc, ◌+◌, ◌-◌, ◌*◌, ◌<◌, ◌≤◌, get_or, List, [], ◌∷◌, ◌++◌, length, take, drop, replicate, refl}
 use Rattle.std.proofs.Common.{sym, ◌∙◌, ap, arith, append_assoc, length-append, length-drop}
 use Rattle.std.proofs.lemmas.List.{drop_at, length-replicate, length-take-le, take-take, take_at}
@@ -21,9 +22,7 @@ copies-add (suc m) n unit =
 
 -- a prefix of copies and more bytes
 take-copies : (m len : ℕ) (unit rest : List ℕ) → length unit ≡ len → take (m * len) (copies m unit ++ rest) ≡ copies m unit
-take-copies m len unit rest sized =
-    ap (λ k. take k (copies m unit ++ rest)) (ap (λ k. m * k) (sym sized) ∙ sym (length-copies m unit))
-    ∙ take-append_seam (copies m unit) rest
+take-copies m len unit rest sized = grind (arith, common_steps, length-copies, take-append_seam)
 
 -- a first unit is whole
 pub first_unit : (count unit : ℕ) (bytes : List ℕ) → 1 ≤ count → length bytes ≡ count * unit → length (take unit bytes) ≡ unit
@@ -40,15 +39,7 @@ fewer unit more times len few is = omega (arith, is, mul-le-mul_right unit few)
 -- after the copies come as many of them again, or fewer
 pub copies_more : (times more len : ℕ) (unit front copied rest : List ℕ) → length unit ≡ len → front ≡ copies times unit → more ≤ times
     → copied ≡ take (more * len) front → take ((times + more) * len) (front ++ (copied ++ rest)) ≡ copies (times + more) unit
-copies_more times more len unit front copied rest sized is few again =
-    let parted : copies times unit ≡ copies more unit ++ copies (times - more) unit =
-    ap (λ k. copies k unit) (let e : times ≡ more + (times - more) = omega arith in e) ∙ copies-add more (times - more) unit in
-    let copied_is : copied ≡ copies more unit =
-    again ∙ ap (take (more * len)) (is ∙ parted) ∙ take-copies more len unit (copies (times - more) unit) sized in
-    let joined : front ++ (copied ++ rest) ≡ copies (times + more) unit ++ rest =
-    sym (append_assoc front copied rest) ∙ ap (λ bs. (bs ++ copied) ++ rest) is ∙ ap (λ bs. (copies times unit ++ bs) ++ rest) copied_is
-    ∙ ap (λ bs. bs ++ rest) (sym (copies-add times more unit)) in
-    ap (take ((times + more) * len)) joined ∙ take-copies (times + more) len unit rest sized
+copies_more times more len unit front copied rest sized is few again = grind (arith, append_assoc, copies-add, take-copies)
 
 -- ---- bytes after the filled ones
 
@@ -74,10 +65,7 @@ unit_grows filled read old new others within within' e = (
 -- the copies of a unit that ends in these bytes
 units_sized : (filled read count : ℕ) (line others : List ℕ) → filled + read ≤ length line
     → length (copies count (take read (drop filled line) ++ others)) ≡ count * (read + length others)
-units_sized filled read count line others within =
-    length-copies count (take read (drop filled line) ++ others)
-    ∙ ap (λ n. count * n) (length-append (take read (drop filled line)) others
-    ∙ ap (λ n. n + length others) (length-take-le read (drop filled line) (omega (arith, length-drop filled line))))
+units_sized filled read count line others within = grind (arith, length-append, length-copies, length-drop, length-take-le)
 
 -- A unit whose last bytes are put after the first, and then all the copies of it.
 record PutsUnits (filled read count : ℕ) (line others first copied : List ℕ) : Type 0 where
@@ -135,11 +123,7 @@ pub units_filled : (filled read count total : ℕ) (line others new first copied
     → copied ≡ copies count (take (read + length others) (take total (drop filled first)))
     → take (filled + count * (read + length others)) (put_mid filled k' first copied)
     ≡ take filled line ++ copies count (take read (drop filled line) ++ others)
-units_filled filled read count total line others new first copied k k' some fits total_is new_is first_is is =
-    let put : PutsUnits filled read count line others first copied =
-    units_put filled read count total line others new first copied k some fits total_is new_is first_is is in
-    take-put_mid filled k' first copied (filled + count * (read + length others)) (ap (λ n. filled + n) (sym put.sized)) put.within
-    ∙ ap (λ bs. bs ++ copied) put.filled_are ∙ ap (λ bs. take filled line ++ bs) put.copied_is
+units_filled filled read count total line others new first copied k k' some fits total_is new_is first_is is = grind (arith, take-put_mid, units_put)
 
 -- and the bytes behind them are unchanged
 pub units_behind : (filled read count total : ℕ) (line others new first copied : List ℕ) (k k' : ℕ)
@@ -167,15 +151,7 @@ pub byte_filled : (filled read count : ℕ) (line others new : List ℕ) (k : �
     ≡ take filled line ++ copies count (take read (drop filled line) ++ others)
 byte_filled filled read count line [] new k none some one fits is = absurd (omega arith)
 byte_filled filled read count line (b ∷ []) new k none some one fits is =
-    let count_is : count * (read + 1) ≡ count = ap (λ n. count * (n + 1)) none ∙ omega arith in
-    let sized : length (take (filled + count - filled) (drop filled line)) ≡ count =
-    ap (λ n. length (take n (drop filled line))) (let e : filled + count - filled ≡ count = omega arith in e)
-    ∙ length-take-le count (drop filled line) (omega (arith, length-drop filled line, count_is)) in
-    let new_is : new ≡ replicate count b = is ∙ ap (λ n. replicate n b) sized in
-    take-put_mid filled k line new (filled + count * (read + 1))
-    (ap (λ n. filled + n) (count_is ∙ sym (ap length new_is ∙ length-replicate count b))) (omega arith)
-    ∙ ap (λ bs. take filled line ++ bs) (new_is ∙ sym (copies-one_byte count b))
-    ∙ ap (λ n. take filled line ++ copies count (take n (drop filled line) ++ (b ∷ []))) (sym none)
+    grind (arith, copies-one_byte, length-drop, length-replicate, length-take-le, take-put_mid)
 byte_filled filled read count line (b ∷ b' ∷ others) new k none some one fits is = absurd (omega arith)
 
 -- the bytes behind copies of a unit of one byte are unchanged, where the copies end there
@@ -185,10 +161,4 @@ pub byte_behind : (filled read count end : ℕ) (line others new : List ℕ) (k 
     → drop (filled + count * (read + length others)) (put_mid filled k line new)
     ≡ drop (filled + count * (read + length others)) line
 byte_behind filled read count end line others new k none some one fits is end_is k_is =
-    let unit_is : read + length others ≡ 1 = omega (arith, none, some, one) in
-    let count_is : count * (read + length others) ≡ count = ap (λ n. count * n) unit_is ∙ omega arith in
-    let sized : length (take (end - filled) (drop filled line)) ≡ count =
-    ap (λ n. length (take n (drop filled line))) (let e : end - filled ≡ count = omega arith in e)
-    ∙ length-take-le count (drop filled line) (omega (arith, length-drop filled line, count_is)) in
-    drop-put_mid filled k line new (filled + count * (read + length others)) (omega (arith, count_is, k_is)) (omega arith)
-    (ap length is ∙ length-replicate _ _ ∙ sized ∙ (let e : count ≡ k = omega arith in e))
+    grind (arith, drop-put_mid, length-drop, length-replicate, length-take-le)

@@ -1,4 +1,5 @@
 -- Each step of a reader: what it stands for after the bytes that it takes.
+use Rattle.std.proofs.lemmas.Grind.{common_steps}
 use Rattle.std.proofs.Common.{◌≡◌, ℕ, zero, suc, ◌+◌, ◌-◌, ◌*◌, ◌<◌, ◌≤◌, ◌==◌, nat_lt, Bool, true, false, if◌then◌else◌, List, [], ◌∷◌}
 use Rattle.std.proofs.Common.{◌++◌, length, take, drop, refl, sym, ◌∙◌, ap, subst, arith, append_assoc, length-append}
 use Rattle.std.proofs.lemmas.Bool.{ltb-true, ltb-false, lt-ltb, le-ltb, ne_eqb}
@@ -61,10 +62,7 @@ pub units-run : (l n u : ℕ) → u ≡ units_of l n → n < 128 → u ≡ n + 1
 units-run l n u is small = is ∙ ap (λ b. if b then n + 1 else (if n == 128 then l else 257 - n)) (lt-ltb n 128 small)
 
 pub units-literal : (l n u : ℕ) → u ≡ units_of l n → 128 < n → u ≡ 257 - n
-units-literal l n u is large =
-    let is_large : nat_lt n 128 ≡ false = le-ltb n 128 (omega arith) in
-    let other : (n == 128) ≡ false = ne_eqb n 128 (λ e. omega arith) in
-    is ∙ ap (λ b. if b then n + 1 else (if n == 128 then l else 257 - n)) is_large ∙ ap (λ b. if b then l else 257 - n) other
+units-literal l n u is large = grind (arith, le-ltb, ne_eqb)
 
 -- ---- a packet's first byte
 
@@ -81,28 +79,15 @@ with_first : (row : KindRow) (units lines repeats : ℕ) (line part : List ℕ) 
     (so_far : Stands row units lines state.Packet repeats line part left sofar) (n : ℕ) (rest : List ℕ)
     → group_at row units lines (snoc sofar n ++ rest)
     ≡ line_at row (suc (so_far.most - 1)) (suc (left - 1)) (front_of repeats line (length sofar)) (n ∷ rest)
-with_first row units lines repeats line part left sofar so_far n rest =
-    let front : GroupFront = front_of repeats line (length sofar) in
-    let one_left : left ≡ suc (left - 1) = omega (arith, so_far.at) in
-    let one_most : so_far.most ≡ suc (so_far.most - 1) = omega (arith, so_far.at, so_far.enough) in
-    with_byte row units lines state.Packet repeats line part left sofar so_far n rest
-    ∙ ap (λ k. line_at row k left front (n ∷ rest)) one_most
-    ∙ ap (λ k. line_at row (suc (so_far.most - 1)) k front (n ∷ rest)) one_left
+with_first row units lines repeats line part left sofar so_far n rest = grind (arith, common_steps, front_of, with_byte)
 
 packet_at-run : (row : KindRow) (left n : ℕ) (bytes : List ℕ) → n < 128 → n + 1 ≤ left
     → packet_at row left (n ∷ bytes) ≡ packet_from (Run (n + 1)) row.unit bytes
-packet_at-run row left n bytes small fits =
-    let is_small : nat_lt n 128 ≡ true = lt-ltb _ _ small in
-    let within : nat_lt left (n + 1) ≡ false = le-ltb _ _ fits in
-    rw (is_small, within) refl
+packet_at-run row left n bytes small fits = simp (le-ltb, lt-ltb)
 
 packet_at-literal : (row : KindRow) (left n : ℕ) (bytes : List ℕ) → 128 < n → 257 - n ≤ left
     → packet_at row left (n ∷ bytes) ≡ packet_from (Literal (257 - n)) ((257 - n) * row.unit) bytes
-packet_at-literal row left n bytes large fits =
-    let is_large : nat_lt n 128 ≡ false = le-ltb _ _ (omega arith) in
-    let other : (n == 128) ≡ false = ne_eqb _ _ (λ e. omega arith) in
-    let within : nat_lt left (257 - n) ≡ false = le-ltb _ _ fits in
-    rw (is_large, other, within) refl
+packet_at-literal row left n bytes large fits = grind (arith, le-ltb, ne_eqb)
 
 packet_at-white : (row : KindRow) (left : ℕ) (bytes : List ℕ) → packet_at row left (128 ∷ bytes) ≡ One Clear bytes
 packet_at-white row left bytes = ap (λ b. if b then Long else One Clear bytes) (le-ltb left left (omega arith))
@@ -136,21 +121,11 @@ record IsBegun (row : KindRow) (left n units count : ℕ) (make : List ℕ → P
   spelled : (bytes : List ℕ) → length (packet_spelling (make bytes)) ≡ suc (length bytes)
 
 run_begun : (row : KindRow) (left n : ℕ) → n < 128 → n + 1 ≤ left → IsBegun row left n (n + 1) row.unit (Run (n + 1)) (copies (n + 1))
-run_begun row left n small fits = record {
-  read = λ rest. packet_at-run row left n rest small fits;
-  gives = λ bytes. refl;
-  has = λ bytes. refl;
-  spelled = λ bytes. refl;
-}
+run_begun row left n small fits = grind (arith, packet_at-run)
 
 literal_begun : (row : KindRow) (left n : ℕ) → 128 < n → 257 - n ≤ left
     → IsBegun row left n (257 - n) ((257 - n) * row.unit) (Literal (257 - n)) (λ bytes. bytes)
-literal_begun row left n large fits = record {
-  read = λ rest. packet_at-literal row left n rest large fits;
-  gives = λ bytes. refl;
-  has = λ bytes. refl;
-  spelled = λ bytes. refl;
-}
+literal_begun row left n large fits = grind (arith, packet_at-literal)
 
 -- the bytes after a packet's first byte
 packet_on : (row : KindRow) (units lines repeats : ℕ) (line part : List ℕ) (left : ℕ) (sofar : List ℕ) (n u count : ℕ) (make : List ℕ

@@ -6,7 +6,7 @@ use Rattle.std.proofs.lemmas.List.{append-nil, drop-drop, length-take-le, take-a
 use Rattle.std.proofs.lemmas.Bool.Decides.{Decides-eqb}
 use Rattle.std.proofs.lemmas.Slice.Eq.{starts_is}
 use Rattle.std.proofs.Math.Nat.{le-mul_of_pos_right, le_of_mul-le-mul_right, mul-le-mul_right, mul-mod_left, mul-sub}
-use Rattle.pwg_definitions.specs.Groups.{Packet, copies, packet_spelling, packet_units}
+use Rattle.pwg_definitions.specs.Groups.{copies, packet_spelling, packet_units}
 use Rattle.pwg_laws.proofs.Packets.{length-copies}
 use Rattle.pwg_lines.specs.Canonical.{canonical, copies_at, next_packet, packets_from, unequal_at}
 
@@ -21,9 +21,7 @@ copies-more : (left : ℕ) (unit rest : List ℕ) → 0 < left → starts_with n
     → copies_at left unit rest ≡ 1 + copies_at (left - 1) unit (drop (length unit) rest)
 unfolding copies_at
 copies-more zero unit rest some e = absurd (omega arith)
-copies-more (suc left) unit rest some e =
-    ap (λ b. if b then 1 + copies_at left unit (drop (length unit) rest) else 0) e
-    ∙ ap (λ k. 1 + copies_at k unit (drop (length unit) rest)) (let same : left ≡ suc left - 1 = omega arith in same)
+copies-more (suc left) unit rest some e = grind arith
 
 copies-other : (left : ℕ) (unit rest : List ℕ) → starts_with nat_eq rest unit ≡ false → copies_at left unit rest ≡ 0
 unfolding copies_at
@@ -36,15 +34,7 @@ copies-none left unit rest none = ap (λ k. copies_at k unit rest) none
 
 pub copies_step : (most : ℕ) (unit line : List ℕ) (count : ℕ) (rest : List ℕ) → CopiesSoFar most unit line count rest → count < most
     → starts_with nat_eq rest unit ≡ true → CopiesSoFar most unit line (count + 1) (drop (length unit) rest)
-copies_step most unit line count rest so_far less e = record {
-  within = omega arith;
-  is =
-      let fewer : most - count - 1 ≡ most - (count + 1) = omega arith in
-      let same : copies_at (most - count - 1) unit (drop (length unit) rest)
-      ≡ copies_at (most - (count + 1)) unit (drop (length unit) rest) =
-      ap (λ k. copies_at k unit (drop (length unit) rest)) fewer in
-      omega (arith, so_far.is, copies-more (most - count) unit rest (omega arith) e, same);
-}
+copies_step most unit line count rest so_far less e = grind (arith, copies-more)
 
 pub copies_stop : (most : ℕ) (unit line : List ℕ) (count : ℕ) (rest : List ℕ) → CopiesSoFar most unit line count rest
     → starts_with nat_eq rest unit ≡ false → count ≡ copies_at most unit line
@@ -84,9 +74,7 @@ unequal-more : (left unit : ℕ) (rest : List ℕ) → 0 < left → 0 < length r
 unfolding unequal_at
 unequal-more zero unit rest some one e = absurd (omega arith)
 unequal-more (suc left) unit [] some one e = absurd (omega arith)
-unequal-more (suc left) unit (b ∷ rest) some one e =
-    ap (λ t. if t then 0 else 1 + unequal_at left unit (drop unit (b ∷ rest))) e
-    ∙ ap (λ k. 1 + unequal_at k unit (drop unit (b ∷ rest))) (let same : left ≡ suc left - 1 = omega arith in same)
+unequal-more (suc left) unit (b ∷ rest) some one e = grind arith
 
 unequal-equal : (left unit : ℕ) (rest : List ℕ) → starts_with nat_eq (drop unit rest) (take unit rest) ≡ true
     → unequal_at left unit rest ≡ 0
@@ -157,12 +145,7 @@ begins-front unit bytes =
 pub copies_at-most : (most : ℕ) (unit bytes : List ℕ) → copies_at most unit bytes ≤ most
 unfolding copies_at
 copies_at-most zero unit bytes = omega arith
-copies_at-most (suc most) unit bytes = by_test (copies_at-most most unit (drop (length unit) bytes)) (starts_with nat_eq bytes unit)
-  where
-    by_test : copies_at most unit (drop (length unit) bytes) ≤ most → (b : Bool)
-        → (if b then 1 + copies_at most unit (drop (length unit) bytes) else 0) ≤ suc most
-    by_test after true = omega (arith, after)
-    by_test after false = omega arith
+copies_at-most (suc most) unit bytes = grind (arith, copies_at-most most unit (drop (length unit) bytes))
 
 pub copies_at-front : (most : ℕ) (unit bytes : List ℕ)
     → bytes ≡ copies (copies_at most unit bytes) unit ++ drop (copies_at most unit bytes * length unit) bytes
@@ -199,13 +182,7 @@ pub unequal_at-most : (most unit : ℕ) (bytes : List ℕ) → unequal_at most u
 unfolding unequal_at
 unequal_at-most zero unit bytes = omega arith
 unequal_at-most (suc most) unit [] = omega arith
-unequal_at-most (suc most) unit (b ∷ bytes) =
-    by_test (unequal_at-most most unit (drop unit (b ∷ bytes))) (starts_with nat_eq (drop unit (b ∷ bytes)) (take unit (b ∷ bytes)))
-  where
-    by_test : unequal_at most unit (drop unit (b ∷ bytes)) ≤ most → (t : Bool)
-        → (if t then 0 else 1 + unequal_at most unit (drop unit (b ∷ bytes))) ≤ suc most
-    by_test after true = omega arith
-    by_test after false = omega (arith, after)
+unequal_at-most (suc most) unit (b ∷ bytes) = grind (arith, unequal_at-most most unit (drop unit (b ∷ bytes)))
 
 pub unequal_at-within : (most unit : ℕ) (bytes : List ℕ) (units : ℕ) → length bytes ≡ units * unit → unequal_at most unit bytes ≤ units
 unfolding unequal_at
@@ -214,13 +191,7 @@ unequal_at-within (suc most) unit [] units whole = omega arith
 unequal_at-within (suc most) unit (b ∷ bytes) zero whole =
     absurd (let none : length (b ∷ bytes) ≡ 0 = whole ∙ omega arith in omega (arith, none))
 unequal_at-within (suc most) unit (b ∷ bytes) (suc units) whole =
-    by_test (unequal_at-within most unit (drop unit (b ∷ bytes)) units (length-drop unit (b ∷ bytes) ∙ omega (arith, whole)))
-    (starts_with nat_eq (drop unit (b ∷ bytes)) (take unit (b ∷ bytes)))
-  where
-    by_test : unequal_at most unit (drop unit (b ∷ bytes)) ≤ units → (t : Bool)
-        → (if t then 0 else 1 + unequal_at most unit (drop unit (b ∷ bytes))) ≤ suc units
-    by_test after true = omega arith
-    by_test after false = omega (arith, after)
+    grind (arith, length-drop, unequal_at-within most unit (drop unit (b ∷ bytes)) units (length-drop unit (b ∷ bytes) ∙ omega (arith, whole)))
 
 -- The counts of the first units of a line, which has one unit or more.
 pub record IsCounted (unit : ℕ) (line : List ℕ) (units : ℕ) : Type 0 where
@@ -236,11 +207,7 @@ two_equal : (most unit : ℕ) (line : List ℕ) → 1 ≤ most → 0 < length li
 unfolding unequal_at
 two_equal zero unit line some one sized none = absurd (omega arith)
 two_equal (suc most) unit [] some one sized none = absurd (omega arith)
-two_equal (suc most) unit (b ∷ line) some one sized none = by_test (starts_with nat_eq (drop unit (b ∷ line)) (take unit (b ∷ line))) none
-  where
-    by_test : (t : Bool) → (if t then 0 else 1 + unequal_at most unit (drop unit (b ∷ line))) ≡ 0 → t ≡ true
-    by_test true e = refl
-    by_test false e = absurd (omega (arith, e))
+two_equal (suc most) unit (b ∷ line) some one sized none = grind arith
 
 pub counted : (unit : ℕ) (line : List ℕ) (units : ℕ) → 1 ≤ unit → length line ≡ units * unit → 0 < length line → IsCounted unit line units
 counted unit line units some whole one = record {
@@ -304,10 +271,7 @@ packets_spelled : (most unit : ℕ) (rest : List ℕ) → 0 < length rest → le
 unfolding packets_from
 packets_spelled most unit [] one enough = absurd (omega arith)
 packets_spelled zero unit (b ∷ rest) one enough = absurd (omega arith)
-packets_spelled (suc most) unit (b ∷ rest) one enough =
-    let packet : Packet = next_packet unit (b ∷ rest) in
-    ap (λ k. packet_spelling packet ++ flat_map packet_spelling (packets_from k unit (drop (packet_units 0 packet * unit) (b ∷ rest))))
-    (let same : most ≡ suc most - 1 = omega arith in same)
+packets_spelled (suc most) unit (b ∷ rest) one enough = grind arith
 
 packets-nothing : (most unit : ℕ) (rest : List ℕ) → length rest ≡ 0 → packets_from most unit rest ≡ []
 unfolding packets_from

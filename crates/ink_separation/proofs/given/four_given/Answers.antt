@@ -5,9 +5,7 @@ use Rattle.ink_separation.proofs.FourInks.{darkness_is, more_are}
 use Rattle.ink_separation.proofs.given.four_given.Goals as goal
 
 pub returns-in-Cmyk : goal.returns-in-Cmyk
-returns-in-Cmyk c = λ ink x inside.
-    c.own_given-own.ensures ink x inside
-    ∙ ap (λ set. cmyk_ink set (four_at c.args.pixels.now x) ink) (sym c.in-Cmyk.is)
+returns-in-Cmyk c = grind arith
 
 pub returns-in-Cmy : goal.returns-in-Cmy
 returns-in-Cmy c = λ ink x inside.

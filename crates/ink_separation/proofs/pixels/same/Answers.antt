@@ -1,9 +1,7 @@
-use Rattle.std.proofs.Common.{arith, get_or, refl, ◌∙◌, length-set}
+use Rattle.std.proofs.lemmas.Grind.{common_steps}
+use Rattle.std.proofs.Common.{arith, ◌∙◌, length-set}
 use Rattle.ink_separation.proofs.Filled.{filled_more}
 use Rattle.ink_separation.proofs.pixels.same.Goals as goal
 
 pub loop-x-preserved : goal.loop-x-preserved
-loop-x-preserved c = record {
-  len = length-set c.loop-x.values _ _ ∙ c.loop-x.invariant.len;
-  filled = filled_more c.loop-x.values c.loop-x.x _ (λ k. get_or c.args.bytes.now k 0) (omega arith) (refl) c.loop-x.invariant.filled;
-}
+loop-x-preserved c = grind (arith, common_steps, filled_more, length-set)

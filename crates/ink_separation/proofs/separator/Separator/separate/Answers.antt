@@ -9,10 +9,7 @@ use Rattle.ink_separation.proofs.Formulas.{separates_for}
 use Rattle.ink_separation.proofs.separator.Separator.separate.Goals as goal
 
 pub separate_part-requires-clause-pixels : goal.separate_part-requires-clause-pixels
-separate_part-requires-clause-pixels c =
-    let s : Separator = c.args.self.now in
-    let w : Window = s.window in
-    omega (arith, c.requires.inside, fewer_bytes s.kind (w.left + 64 * c.loop-n.n + 64) (w.left + w.width) (omega arith))
+separate_part-requires-clause-pixels c = grind (arith, fewer_bytes)
 
 pub loop-n-preserved : goal.loop-n-preserved
 loop-n-preserved c =
