@@ -25,7 +25,7 @@ fresh_of inks d (Some q) = Empty
 -- what a tile gives in a direction, and its dots for direction 3
 abbrev pub cell_of : Border → ℕ → Cell
 cell_of b zero = Right b.side
-cell_of b (suc zero) = Bottom b.band
+cell_of b (suc zero) = Bottom b.bottom
 cell_of b (suc (suc zero)) = Corner b.corner
 cell_of b (suc (suc (suc d))) = Dots b.bits
 

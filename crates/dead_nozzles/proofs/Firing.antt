@@ -12,8 +12,8 @@ use Rattle.weave_definitions.proofs.Rounds.{Inverse, inverse}
 use Rattle.weave_definitions.proofs.Rows.{Counts, StandsOn, own-counts, pass-low, place-only, row_under as weave_row}
 use Rattle.weave_definitions.proofs.Firings.{count-flat}
 use Rattle.dead_nozzles.specs.Dead.{has}
-use Rattle.dead_nozzles.specs.Strokes.{Head, Shot, HeadStroke, firings_of, head_rows, is_fired, regular_strokes, row_under, shot, stroke_at}
-use Rattle.dead_nozzles.proofs.Lists.{One, Nowhere, Tells, both-true, count-cons, sum-map, sum-tells}
+use Rattle.dead_nozzles.specs.Strokes.{Head, Shot, HeadStroke, firings_of, head_span, is_fired, regular_strokes, row_under, shot, stroke_at}
+use Rattle.dead_nozzles.proofs.Lists.{One, Nowhere, Indicates, both-true, count-cons, sum-map, sum-indicated}
 
 -- how often a row is fired
 abbrev pub count : ℕ → List Shot → ℕ
@@ -37,7 +37,7 @@ not-fired y shots e = grind (arith, fired-some)
 
 -- a nozzle is over a row of the window
 pub record Over (h : Head) (start i y : ℕ) : Type 0 where
-  pub place : start + i * h.pitch ≡ head_rows h + y
+  pub place : start + i * h.pitch ≡ head_span h + y
   pub low : y < h.height
 
 pub over : (h : Head) (start i y : ℕ) → row_under h start i ≡ Some y → Over h start i y
@@ -53,7 +53,7 @@ pub record Hits (h : Head) (wanted : ℕ → Bool) (start y i : ℕ) : Type 0 wh
   pub over : Over h start i y
 
 shot-tells : (h : Head) (wanted : ℕ → Bool) (start y i : ℕ)
-    → Tells (Hits h wanted start y) (λ i. count y (shot h wanted i (row_under h start i))) i
+    → Indicates (Hits h wanted start y) (λ i. count y (shot h wanted i (row_under h start i))) i
 shot-tells h wanted start y i = grind (arith, both-true, count, eq-eqb, eqb-true, not-true, over, under)
 
 -- nozzles that stand over one row are one
@@ -71,7 +71,7 @@ stroke-tells h wanted start y near =
     let parts : count y (stroke_at h wanted start).shots ≡ sum_by (λ i. count y (shot h wanted i (row_under h start i))) (count_from 0 h.nozzles) =
     count-flat (λ (s : Shot). s.row == y) (λ i. shot h wanted i (row_under h start i)) (count_from 0 h.nozzles) in
     subst (λ n. One (Hits h wanted start y) n 0 h.nozzles ⊎ Nowhere (Hits h wanted start y) n 0 h.nozzles) (sym parts)
-    (sum-tells (Hits h wanted start y) (λ i. count y (shot h wanted i (row_under h start i))) 0 h.nozzles
+    (sum-indicated (Hits h wanted start y) (λ i. count y (shot h wanted i (row_under h start i))) 0 h.nozzles
     (shot-tells h wanted start y) (one-nozzle h wanted start y near))
 
 -- ---- the regular strokes
@@ -100,7 +100,7 @@ one-place h y t i t' i' some near gcd few few' a b =
     (one.0 ∙ sym other.0, one.1 ∙ sym other.1)
 
 pass-tells : (h : Head) (y : ℕ) → 1 ≤ h.pitch → (t : ℕ)
-    → Tells (InPass h y) (λ t. count y (stroke_at h (λ row. true) (t * h.nozzles)).shots) t
+    → Indicates (InPass h y) (λ t. count y (stroke_at h (λ row. true) (t * h.nozzles)).shots) t
 pass-tells h y near t =
     elim (stroke-tells h (λ row. true) (t * h.nozzles) y near) [
       | inl one ↦ inl (record { nozzle = one.at; few = omega (arith, one.inside); hits = one.has }, one.once)
@@ -118,7 +118,7 @@ regular-tells h y some near gcd =
     count-flat (λ (s : Shot). s.row == y) (λ (s : HeadStroke). s.shots) (map pass (count_from 0 many))
     ∙ sum-map (λ (s : HeadStroke). count y s.shots) pass (count_from 0 many) in
     subst (λ n. One (InPass h y) n 0 (pass_count h.nozzles h.pitch h.height) ⊎ Nowhere (InPass h y) n 0 (pass_count h.nozzles h.pitch h.height)) (sym parts)
-    (sum-tells (InPass h y) (λ t. count y (pass t).shots) 0 many (pass-tells h y near)
+    (sum-indicated (InPass h y) (λ t. count y (pass t).shots) 0 many (pass-tells h y near)
     (λ k l a b. (one-place h y k a.nozzle l b.nozzle some near gcd a.few b.few a.hits.over b.hits.over).0))
 
 -- the pass in which a nozzle is over a row is one of those

@@ -34,19 +34,19 @@ pub record Nowhere (P : ℕ → Type 0) (sum n many : ℕ) : Type 0 where
   pub never : sum ≡ 0
 
 -- a number has the property, and is 1, or it has not, and is 0
-abbrev pub Tells : (ℕ → Type 0) → (ℕ → ℕ) → ℕ → Type 0
-Tells P g k = (P k × (g k ≡ 1)) ⊎ ((P k → ⊥) × (g k ≡ 0))
+abbrev pub Indicates : (ℕ → Type 0) → (ℕ → ℕ) → ℕ → Type 0
+Indicates P g k = (P k × (g k ≡ 1)) ⊎ ((P k → ⊥) × (g k ≡ 0))
 
-sum-none : (P : ℕ → Type 0) (g : ℕ → ℕ) (n many : ℕ) → ((k : ℕ) → Tells P g k) → ((k : ℕ) → n ≤ k → P k → ⊥)
+sum-none : (P : ℕ → Type 0) (g : ℕ → ℕ) (n many : ℕ) → ((k : ℕ) → Indicates P g k) → ((k : ℕ) → n ≤ k → P k → ⊥)
     → sum_by g (count_from n many) ≡ 0
 sum-none P g n zero tells none = refl
 sum-none P g n (suc many) tells none = grind (arith, sum_by-cons, sum-none P g (n + 1) many tells (λ k from. none k (omega arith)))
 
 -- where no two numbers have the property
-pub sum-tells : (P : ℕ → Type 0) (g : ℕ → ℕ) (n many : ℕ) → ((k : ℕ) → Tells P g k) → ((k l : ℕ) → P k → P l → k ≡ l)
+pub sum-indicated : (P : ℕ → Type 0) (g : ℕ → ℕ) (n many : ℕ) → ((k : ℕ) → Indicates P g k) → ((k l : ℕ) → P k → P l → k ≡ l)
     → One P (sum_by g (count_from n many)) n many ⊎ Nowhere P (sum_by g (count_from n many)) n many
-sum-tells P g n zero tells unique = inr (record { none = λ k from below p. absurd (omega arith); never = refl })
-sum-tells P g n (suc many) tells unique = grind (arith, cases_eq, sum-none, sum_by-cons, sum-tells P g (n + 1) many tells unique)
+sum-indicated P g n zero tells unique = inr (record { none = λ k from below p. absurd (omega arith); never = refl })
+sum-indicated P g n (suc many) tells unique = grind (arith, cases_eq, sum-none, sum_by-cons, sum-indicated P g (n + 1) many tells unique)
 
 -- ---- tests
 

@@ -8,7 +8,7 @@ use Rattle.std.specs.List.{AllByRecursion}
 use Rattle.base_definitions.specs.Counting.{count_from}
 use Rattle.weave_definitions.specs.Weave.{nozzle_row, pass_count}
 use Rattle.dead_nozzles.specs.Dead.{first_live, has, least_live}
-use Rattle.dead_nozzles.specs.Strokes.{Head, IsHead, Shot, HeadStroke, all_strokes, firings_of, head_rows, insert, inserted, is_fired, left_by}
+use Rattle.dead_nozzles.specs.Strokes.{Head, IsHead, Shot, HeadStroke, all_strokes, firings_of, head_span, insert, inserted, is_fired, left_by}
 use Rattle.dead_nozzles.specs.Strokes.{made_up, make_up_stroke, make_up_strokes, missing, regular_strokes}
 use Rattle.dead_nozzles.proofs.Lists.{Nowhere, all-filter, all-numbers, count-more, has-filter, has-inside, has-outside}
 use Rattle.dead_nozzles.proofs.Firing.{Hits, InPass, Over, count, is-fired, not-fired, one-place, over, pass-is, regular-tells, stroke-tells}
@@ -20,17 +20,17 @@ pub record Maker (h : Head) (j : ℕ) : Type 0 where
   pub live : has h.dead j ≡ false
 
 -- it is no further down than the last nozzle
-pub reach : (h : Head) (j : ℕ) → Maker h j → j * h.pitch ≤ head_rows h
+pub reach : (h : Head) (j : ℕ) → Maker h j → j * h.pitch ≤ head_span h
 reach h j m = mul-le-mul_right h.pitch (let most : j ≤ h.nozzles - 1 = omega (arith, m.low) in most)
 
 maker-hits : (h : Head) (j y : ℕ) (rows : List ℕ) → Maker h j → has rows y ≡ true → y < h.height
-    → Hits h (has rows) (y + head_rows h - j * h.pitch) y j
+    → Hits h (has rows) (y + head_span h - j * h.pitch) y j
 maker-hits h j y rows m e low = grind (arith, over, reach)
 
 pub makes : (h : Head) (j y : ℕ) (rows : List ℕ) → Maker h j → has rows y ≡ true → y < h.height
     → is_fired (make_up_stroke h j y rows).shots y ≡ true
 makes h j y rows m e low =
-    elim (stroke-tells h (has rows) (y + head_rows h - j * h.pitch) y m.near) [
+    elim (stroke-tells h (has rows) (y + head_span h - j * h.pitch) y m.near) [
       | inl one ↦ is-fired y (make_up_stroke h j y rows).shots one.once
       | inr nowhere ↦ absurd (nowhere.none j (omega arith) (omega (arith, m.low)) (maker-hits h j y rows m e low))
     ]
@@ -61,7 +61,7 @@ adds : (h : Head) (j row : ℕ) (rows : List ℕ) (y : ℕ) → 1 ≤ h.pitch
     ≡ cond (has rows y) 1 0
 adds h j row rows y near =
     let shots : List Shot = (make_up_stroke h j row rows).shots in
-    elim (stroke-tells h (has rows) (row + head_rows h - j * h.pitch) y near) [
+    elim (stroke-tells h (has rows) (row + head_span h - j * h.pitch) y near) [
       | inl one ↦ once-more (has rows y) (is_fired shots y) (count y shots) one.has.is_wanted (is-fired y shots one.once) one.once
       | inr nowhere ↦ none-more (has rows y) (is_fired shots y) (count y shots) (not-fired y shots nowhere.never) nowhere.never
     ]

@@ -8,7 +8,7 @@ use Rattle.std.specs.List.{AllByRecursion, filter}
 use Rattle.base_definitions.specs.Counting.{count_from}
 use Rattle.dead_nozzles.specs.Dead.{has}
 use Rattle.dead_nozzles.specs.Plans.{Owns, Takes, is_free, is_of, owned_row, owner}
-use Rattle.dead_nozzles.specs.Strokes.{Head, HeadStroke, head_rows, inserted, is_fired, left_by, made_up, make_up_stroke, row_under, stroke_at}
+use Rattle.dead_nozzles.specs.Strokes.{Head, HeadStroke, head_span, inserted, is_fired, left_by, made_up, make_up_stroke, row_under, stroke_at}
 use Rattle.dead_nozzles.proofs.Lists.{all-append, all-map, all-mapped, both-true, has-filter, has-inside}
 use Rattle.dead_nozzles.proofs.Firing.{Over, one-over, over}
 use Rattle.dead_nozzles.proofs.MakeUp.{Maker, fewer, has-first, has-left, makes, reach}
@@ -147,7 +147,7 @@ next-stroke h j start row old new k owned = record { rows = rows; is = is; after
         ]
 
     is : make_up_stroke h j row (row ∷ free_from h old (row + 1)) ≡ stroke_at h (free old) start
-    is = stroke-same h (has (row ∷ free_from h old (row + 1))) (free old) (row + head_rows h - j * h.pitch) start (omega (arith, o.place)) agree
+    is = stroke-same h (has (row ∷ free_from h old (row + 1))) (free old) (row + head_span h - j * h.pitch) start (omega (arith, o.place)) agree
 
     after : (y : ℕ) → has (row ∷ free_from h old (row + 1)) y ≡ true → row ≤ y
     after y e = (free-row h old row y (ap (λ ys. has ys y) here ∙ e)).after

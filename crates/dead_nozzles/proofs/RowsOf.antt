@@ -5,7 +5,7 @@ use Rattle.std.proofs.lemmas.Bool.{cases_eq, eq-eqb, ne_eqb}
 use Rattle.std.specs.List.{flat_map}
 use Rattle.base_definitions.specs.Counting.{count_from}
 use Rattle.dead_nozzles.specs.Dead.{has}
-use Rattle.dead_nozzles.specs.Plans.{row_of}
+use Rattle.dead_nozzles.specs.Plans.{shot_row}
 use Rattle.dead_nozzles.specs.Strokes.{Head, Shot, is_fired, row_under, shot, stroke_at}
 use Rattle.dead_nozzles.proofs.Firing.{Hits, is-fired, not-fired, over, stroke-tells}
 
@@ -15,23 +15,23 @@ wanted_row h wanted nozzle None = None
 wanted_row h wanted nozzle (Some row) = cond (not (has h.dead nozzle) && wanted row) (Some row) None
 
 -- what one nozzle fires
-own-shot : (h : Head) (wanted : ℕ → Bool) (i : ℕ) (row : Option ℕ) (others : List Shot) → row_of others i ≡ None
-    → row_of (shot h wanted i row ++ others) i ≡ wanted_row h wanted i row
+own-shot : (h : Head) (wanted : ℕ → Bool) (i : ℕ) (row : Option ℕ) (others : List Shot) → shot_row others i ≡ None
+    → shot_row (shot h wanted i row ++ others) i ≡ wanted_row h wanted i row
 own-shot h wanted i None others none = none
 own-shot h wanted i (Some row) others none = grind (arith, eq-eqb)
 
 other-shot : (h : Head) (wanted : ℕ → Bool) (k i : ℕ) (row : Option ℕ) (others : List Shot) → k ≢ i
-    → row_of (shot h wanted k row ++ others) i ≡ row_of others i
+    → shot_row (shot h wanted k row ++ others) i ≡ shot_row others i
 other-shot h wanted k i None others apart = refl
 other-shot h wanted k i (Some row) others apart = grind (arith, ne_eqb)
 
 shots-past : (h : Head) (wanted : ℕ → Bool) (start n many i : ℕ) → i < n
-    → row_of (flat_map (λ k. shot h wanted k (row_under h start k)) (count_from n many)) i ≡ None
+    → shot_row (flat_map (λ k. shot h wanted k (row_under h start k)) (count_from n many)) i ≡ None
 shots-past h wanted start n zero i past = refl
 shots-past h wanted start n (suc many) i past = grind (arith, other-shot, shots-past h wanted start (n + 1) many i (omega arith))
 
 shots-row : (h : Head) (wanted : ℕ → Bool) (start n many i : ℕ) → n ≤ i → i < n + many
-    → row_of (flat_map (λ k. shot h wanted k (row_under h start k)) (count_from n many)) i ≡ wanted_row h wanted i (row_under h start i)
+    → shot_row (flat_map (λ k. shot h wanted k (row_under h start k)) (count_from n many)) i ≡ wanted_row h wanted i (row_under h start i)
 shots-row h wanted start n zero i from below = absurd (omega arith)
 shots-row h wanted start n (suc many) i from below =
     by_case (cases_eq n i) (λ apart. shots-row h wanted start (n + 1) many i (omega (arith, apart)) (omega arith))
@@ -40,11 +40,11 @@ shots-row h wanted start n (suc many) i from below =
     others = flat_map (λ k. shot h wanted k (row_under h start k)) (count_from (n + 1) many)
 
     by_case : (n ≡ i) ⊎ (n ≢ i)
-        → (n ≢ i → row_of (flat_map (λ k. shot h wanted k (row_under h start k)) (count_from (n + 1) many)) i ≡ wanted_row h wanted i (row_under h start i))
-        → row_of (shot h wanted n (row_under h start n) ++ flat_map (λ k. shot h wanted k (row_under h start k)) (count_from (n + 1) many)) i
+        → (n ≢ i → shot_row (flat_map (λ k. shot h wanted k (row_under h start k)) (count_from (n + 1) many)) i ≡ wanted_row h wanted i (row_under h start i))
+        → shot_row (shot h wanted n (row_under h start n) ++ flat_map (λ k. shot h wanted k (row_under h start k)) (count_from (n + 1) many)) i
         ≡ wanted_row h wanted i (row_under h start i)
     by_case (inl e) later =
-        ap (λ k. row_of (shot h wanted k (row_under h start k) ++ flat_map (λ k. shot h wanted k (row_under h start k)) (count_from (n + 1) many)) i) e
+        ap (λ k. shot_row (shot h wanted k (row_under h start k) ++ flat_map (λ k. shot h wanted k (row_under h start k)) (count_from (n + 1) many)) i) e
         ∙ own-shot h wanted i (row_under h start i) (flat_map (λ k. shot h wanted k (row_under h start k)) (count_from (n + 1) many))
         (shots-past h wanted start (n + 1) many i (omega (arith, e)))
     by_case (inr apart) later =
@@ -53,7 +53,7 @@ shots-row h wanted start n (suc many) i from below =
 
 -- The row of a nozzle in a stroke is the one under it, where the nozzle is live and the row is wanted.
 pub stroke-row : (h : Head) (wanted : ℕ → Bool) (start i : ℕ) → i < h.nozzles
-    → row_of (stroke_at h wanted start).shots i ≡ wanted_row h wanted i (row_under h start i)
+    → shot_row (stroke_at h wanted start).shots i ≡ wanted_row h wanted i (row_under h start i)
 stroke-row h wanted start i few = shots-row h wanted start 0 h.nozzles i (omega arith) (omega (arith, few))
 
 -- strokes that want the same rows of the window are the same

@@ -10,7 +10,7 @@ use Rattle.base_definitions.specs.Counting.{count_from}
 use Rattle.weave_definitions.specs.Weave.{pass_count}
 use Rattle.dead_nozzles.specs.Dead.{has}
 use Rattle.dead_nozzles.specs.Plans.{Owns, is_free, is_of, owner}
-use Rattle.dead_nozzles.specs.Strokes.{Head, HeadStroke, all_strokes, head_rows, insert, inserted, made_up}
+use Rattle.dead_nozzles.specs.Strokes.{Head, HeadStroke, all_strokes, head_span, insert, inserted, made_up}
 use Rattle.dead_nozzles.specs.Strokes.{row_under, stroke_at}
 use Rattle.dead_nozzles.proofs.Lists.{all-append, all-map, both-true, has-filter, has-outside}
 use Rattle.dead_nozzles.proofs.Firing.{under}
@@ -43,7 +43,7 @@ free_from h owners row = filter (λ y. is_free (owner owners y)) (count_from row
 
 -- the first row that a nozzle can be over in a stroke that starts here or below
 abbrev pub row_at : Head → ℕ → ℕ → ℕ
-row_at h j start = start + j * h.pitch - head_rows h
+row_at h j start = start + j * h.pitch - head_span h
 
 free-drop : (h : Head) (owners : List (Option ℕ)) (row : ℕ) → row < h.height → is_free (owner owners row) ≡ false
     → free_from h owners row ≡ free_from h owners (row + 1)
@@ -87,11 +87,11 @@ pub same-multiple : (n a b : ℕ) → 1 ≤ n → a * n ≤ b * n → b * n < a 
 same-multiple n a b some le near = grind (arith, cases_order, mul-le-mul_right)
 
 -- a pass that starts above the end of the window is one of the passes
-pub pass-counts : (h : Head) (t : ℕ) → 1 ≤ h.nozzles → t * h.nozzles < head_rows h + h.height → t < pass_count h.nozzles h.pitch h.height
+pub pass-counts : (h : Head) (t : ℕ) → 1 ≤ h.nozzles → t * h.nozzles < head_span h + h.height → t < pass_count h.nozzles h.pitch h.height
 pass-counts h t some low = grind (arith, le-div)
 
 -- and the passes start there
-pub pass-begins : (h : Head) (t : ℕ) → 1 ≤ h.nozzles → t < pass_count h.nozzles h.pitch h.height → t * h.nozzles < head_rows h + h.height
+pub pass-begins : (h : Head) (t : ℕ) → 1 ≤ h.nozzles → t < pass_count h.nozzles h.pitch h.height → t * h.nozzles < head_span h + h.height
 pass-begins h t some less = grind (arith, div-mul-le_self, mul-le-mul_right)
 
 -- ---- what is known of owners
@@ -140,7 +140,7 @@ pub map-more : (xs : List HeadStroke) (s : HeadStroke) (start : ℕ) (starts : L
 map-more xs s start starts e same = grind (arith, map-append)
 
 pub scan-pass : (h : Head) (j start : ℕ) (owners : List (Option ℕ)) (starts : List ℕ) (t : ℕ) → Maker h j → 1 ≤ h.nozzles
-    → start < head_rows h + h.height → start ≡ t * h.nozzles → Scan h j start owners starts
+    → start < head_span h + h.height → start ≡ t * h.nozzles → Scan h j start owners starts
     → Scan h j (start + 1) owners (starts ++ start ∷ [])
 scan-pass h j start owners starts t m some low e s = record {
   done = s.done ++ first ∷ [];
@@ -191,7 +191,7 @@ scan-pass h j start owners starts t m some low e s = record {
     below : (k : HeadStroke) → StartsAt h j rows k → first.start < k.start
     below k at =
         let is : IsFreeRow h owners (row_at h j start) at.row = free-row h owners (row_at h j start) at.row at.is in
-        elim (cases_eq (start + j * h.pitch) (head_rows h + at.row)) [
+        elim (cases_eq (start + j * h.pitch) (head_span h + at.row)) [
           | inl here ↦ absurd (let free = sym is.free ∙ taken at.row (under h start j at.row (record { place = here; low = is.low })) in cc)
           | inr apart ↦ omega (arith, apart, is.after, begins, at.start, reach h j m)
         ]

@@ -7,7 +7,7 @@ use Rattle.std.specs.List.{AllByRecursion}
 use Rattle.base_definitions.specs.Counting.{count_from}
 use Rattle.weave_definitions.specs.Weave.{pass_count}
 use Rattle.dead_nozzles.specs.Dead.{has}
-use Rattle.dead_nozzles.specs.Strokes.{AreLive, Head, IsHead, IsLiveShot, Shot, StartsRise, HeadStroke, all_strokes, firings_of, head_rows, insert, inserted}
+use Rattle.dead_nozzles.specs.Strokes.{AreLive, Head, IsHead, IsLiveShot, Shot, StartsRise, HeadStroke, all_strokes, firings_of, head_span, insert, inserted}
 use Rattle.dead_nozzles.specs.Strokes.{is_fired, left_by, made_up, made_up_by, make_up_stroke, make_up_strokes, missing, regular_strokes, row_under, shot, stroke_at}
 use Rattle.dead_nozzles.proofs.Lists.{all-filter, all-flat, all-map, all-mapped, both-true, has-outside}
 use Rattle.dead_nozzles.proofs.Firing.{is-fired, over, regular-tells}
@@ -59,7 +59,7 @@ insert-rises s (t ∷ ts) rises apart = grind (arith, all-insert, all-map, leb-f
 pub record StartsAt (h : Head) (j : ℕ) (rows : List ℕ) (k : HeadStroke) : Type 0 where
   pub row : ℕ
   pub is : has rows row ≡ true
-  pub start : k.start ≡ row + head_rows h - j * h.pitch
+  pub start : k.start ≡ row + head_span h - j * h.pitch
 
 left-has : (shots : List Shot) (rows : List ℕ) (y : ℕ) → has (left_by shots rows) y ≡ true → (has rows y ≡ true) × (not (is_fired shots y) ≡ true)
 left-has shots rows y e = both-true (has rows y) (not (is_fired shots y)) (sym (has-left shots rows y) ∙ e)
@@ -76,7 +76,7 @@ made-starts h j (suc most) (row ∷ rows) =
     )
 
 made-rise : (h : Head) (j most : ℕ) (rows : List ℕ) (base : List HeadStroke) → Maker h j → AreLow h rows → StartsRise base
-    → ((y : ℕ) → has rows y ≡ true → AllByRecursion (λ (k : HeadStroke). k.start ≢ y + head_rows h - j * h.pitch) base)
+    → ((y : ℕ) → has rows y ≡ true → AllByRecursion (λ (k : HeadStroke). k.start ≢ y + head_span h - j * h.pitch) base)
     → StartsRise (inserted (made_up h j most rows) base)
 made-rise h j zero rows base m low rises apart = rises
 made-rise h j (suc most) [] base m low rises apart = rises
@@ -109,7 +109,7 @@ regular-rise h n (suc many) some = (
 
 -- no pass starts where a missing row is made up
 regular-apart : (h : Head) (is : IsHead h) (y : ℕ) → has (missing h) y ≡ true
-    → AllByRecursion (λ (k : HeadStroke). k.start ≢ y + head_rows h - is.live * h.pitch) (regular_strokes h)
+    → AllByRecursion (λ (k : HeadStroke). k.start ≢ y + head_span h - is.live * h.pitch) (regular_strokes h)
 regular-apart h is y e =
     let m : Maker h is.live = maker h is in
     let shots : List Shot = firings_of (regular_strokes h) in
@@ -118,7 +118,7 @@ regular-apart h is y e =
     let not_fired : is_fired shots y ≡ false = not-true (is_fired shots y) parts.1 in
     elim (regular-tells h y is.some_nozzles is.some_pitch is.coprime) [
       | inl one ↦ absurd (let fired : is_fired shots y ≡ true = is-fired y shots one.once in let b : true ≡ false = sym fired ∙ not_fired in cc)
-      | inr nowhere ↦ all-mapped (λ (k : HeadStroke). k.start ≢ y + head_rows h - is.live * h.pitch)
+      | inr nowhere ↦ all-mapped (λ (k : HeadStroke). k.start ≢ y + head_span h - is.live * h.pitch)
           (λ t. stroke_at h (λ row. true) (t * h.nozzles)) 0 (pass_count h.nozzles h.pitch h.height)
           (λ t from below same. nowhere.none t from below (record {
             nozzle = is.live;

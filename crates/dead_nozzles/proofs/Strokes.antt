@@ -11,9 +11,9 @@ use Rattle.base_definitions.specs.Counting.{count_from}
 use Rattle.base_definitions.specs.Limits.{most_rows}
 use Rattle.weave_definitions.specs.Weave.{pass_count}
 use Rattle.dead_nozzles.specs.Dead.{least_live}
-use Rattle.dead_nozzles.specs.Plans.{ArePassOwners, Begins, IsStrokePlan, IsWorn, Owns, is_free, owner, row_of, stroke_in}
+use Rattle.dead_nozzles.specs.Plans.{ArePassOwners, Begins, IsStrokePlan, IsWorn, Owns, is_free, owner, shot_row, stroke_in}
 use Rattle.dead_nozzles.specs.Plans.Begins.{a_make_up, a_pass, nothing}
-use Rattle.dead_nozzles.specs.Strokes.{Head, IsHead, StartsRise, HeadStroke, all_strokes, head_rows, insert, inserted, left_by, made_up, made_up_by, make_up_stroke}
+use Rattle.dead_nozzles.specs.Strokes.{Head, IsHead, StartsRise, HeadStroke, all_strokes, head_span, insert, inserted, left_by, made_up, made_up_by, make_up_stroke}
 use Rattle.dead_nozzles.specs.Strokes.{make_up_strokes, missing, regular_strokes, stroke_at}
 use Rattle.dead_nozzles.proofs.Firing.{Over, over}
 use Rattle.dead_nozzles.proofs.Lists.{all-has, all-map, all-mapped}
@@ -56,7 +56,7 @@ scan-begin h j owners is m e are =
 -- ---- the next one
 
 pub scan-step : (h : Head) (j start : ℕ) (old new : List (Option ℕ)) (starts : List ℕ) (begins : Bool) → Maker h j → 1 ≤ h.nozzles
-    → start < head_rows h + h.height → Begins h j start old new begins → Scan h j start old starts
+    → start < head_span h + h.height → Begins h j start old new begins → Scan h j start old starts
     → Scan h j (start + 1) new (cond begins (starts ++ start ∷ []) starts)
 scan-step h j start old new starts true m some low (a_pass t e same) s =
     subst (λ owners. Scan h j (start + 1) owners (starts ++ start ∷ [])) (sym same) (scan-pass h j start old starts t m some low e s)
@@ -72,7 +72,7 @@ nothing-left h j zero = refl
 nothing-left h j (suc most) = refl
 
 pub scan-end : (h : Head) (j start : ℕ) (owners : List (Option ℕ)) (starts : List ℕ) → IsHead h → IsWorn h.nozzles h.pitch h.height
-    → head_rows h + h.height ≤ start → Scan h j start owners starts → IsStrokePlan h starts owners
+    → head_span h + h.height ≤ start → Scan h j start owners starts → IsStrokePlan h starts owners
 scan-end h j start owners starts is worn past s = record {
   head = is;
   worn = worn;
@@ -119,20 +119,20 @@ all-are h is =
     (λ t from below. record { wanted = λ row. true; start = t * h.nozzles; is = refl }))
 
 -- the row of a nozzle is under it
-pub row-over : (h : Head) (s : HeadStroke) (i y : ℕ) → i < h.nozzles → IsStrokeAt h s → row_of s.shots i ≡ Some y → Over h s.start i y
+pub row-over : (h : Head) (s : HeadStroke) (i y : ℕ) → i < h.nozzles → IsStrokeAt h s → shot_row s.shots i ≡ Some y → Over h s.start i y
 row-over h s i y few shape e = grind (arith, Over, over, stroke-row, wanted_row)
 
 -- ---- how far down, and how many
 
 -- each stroke starts above the end of the window
-pub all-low : (h : Head) → IsHead h → AllByRecursion (λ (s : HeadStroke). s.start < head_rows h + h.height) (all_strokes h)
+pub all-low : (h : Head) → IsHead h → AllByRecursion (λ (s : HeadStroke). s.start < head_span h + h.height) (all_strokes h)
 all-low h is =
-    all-inserted (λ (s : HeadStroke). s.start < head_rows h + h.height) (make_up_strokes h) (regular_strokes h)
-    (subst (λ o. AllByRecursion (λ (s : HeadStroke). s.start < head_rows h + h.height) (made_up_by h o)) (sym is.is_live)
-    (all-map (StartsAt h is.live (missing h)) (λ (s : HeadStroke). s.start < head_rows h + h.height) (made_up h is.live (length (missing h)) (missing h))
+    all-inserted (λ (s : HeadStroke). s.start < head_span h + h.height) (make_up_strokes h) (regular_strokes h)
+    (subst (λ o. AllByRecursion (λ (s : HeadStroke). s.start < head_span h + h.height) (made_up_by h o)) (sym is.is_live)
+    (all-map (StartsAt h is.live (missing h)) (λ (s : HeadStroke). s.start < head_span h + h.height) (made_up h is.live (length (missing h)) (missing h))
     (λ s at. let low : at.row < h.height = all-has (λ y. y < h.height) (missing h) at.row (missing-low h) at.is in
     omega (arith, low, at.start)) (made-starts h is.live (length (missing h)) (missing h))))
-    (all-mapped (λ (s : HeadStroke). s.start < head_rows h + h.height) (λ t. stroke_at h (λ row. true) (t * h.nozzles)) 0
+    (all-mapped (λ (s : HeadStroke). s.start < head_span h + h.height) (λ t. stroke_at h (λ row. true) (t * h.nozzles)) 0
     (pass_count h.nozzles h.pitch h.height) (λ t from below. pass-begins h t is.some_nozzles (omega (arith, below))))
 
 insert-len : (s : HeadStroke) (ts : List HeadStroke) → length (insert s ts) ≡ suc (length ts)
@@ -167,12 +167,12 @@ plan-small h is few near low = grind (arith, all-few, div-le_self, missing-few, 
 
 -- ---- the stroke at a place
 
-pub in-low : (h : Head) (place : ℕ) → IsHead h → place < length (all_strokes h) → (stroke_in (all_strokes h) place).start < head_rows h + h.height
+pub in-low : (h : Head) (place : ℕ) → IsHead h → place < length (all_strokes h) → (stroke_in (all_strokes h) place).start < head_span h + h.height
 in-low h place is low =
-    All-from_recursion (λ (s : HeadStroke). s.start < head_rows h + h.height) (all_strokes h) (all-low h is) place (record { start = 0; shots = [] }) low
+    All-from_recursion (λ (s : HeadStroke). s.start < head_span h + h.height) (all_strokes h) (all-low h is) place (record { start = 0; shots = [] }) low
 
 -- the row of a nozzle at a place, if it has one, is on the window
-pub in-over : (h : Head) (place i y : ℕ) → IsHead h → i < h.nozzles → row_of (stroke_in (all_strokes h) place).shots i ≡ Some y
+pub in-over : (h : Head) (place i y : ℕ) → IsHead h → i < h.nozzles → shot_row (stroke_in (all_strokes h) place).shots i ≡ Some y
     → Over h (stroke_in (all_strokes h) place).start i y
 in-over h place i y is few e = grind (arith, All-from_recursion, all-are, cases_lt, get_or_past, row-over)
 

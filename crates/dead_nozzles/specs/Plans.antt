@@ -15,9 +15,9 @@ abbrev pub stroke_in : List HeadStroke → ℕ → HeadStroke
 stroke_in strokes place = slice_index_or strokes place (record { start = 0; shots = [] })
 
 -- the row that a nozzle fires, if it fires one
-abbrev pub row_of : List Shot → ℕ → Option ℕ
-row_of [] nozzle = None
-row_of (s ∷ shots) nozzle = if s.nozzle == nozzle then Some s.row else row_of shots nozzle
+abbrev pub shot_row : List Shot → ℕ → Option ℕ
+shot_row [] nozzle = None
+shot_row (s ∷ shots) nozzle = if s.nozzle == nozzle then Some s.row else shot_row shots nozzle
 
 -- ---- who fires a row
 
@@ -48,7 +48,7 @@ owned_row owners start (Some row) = cond (is_of start (owner owners row)) (Some 
 -- Each nozzle fires in a stroke the row under it, where the stroke is the row's owner, and no other.
 abbrev pub Owns : Head → List (Option ℕ) → HeadStroke → Type 0
 Owns h owners stroke =
-    (nozzle : ℕ) → nozzle < h.nozzles → row_of stroke.shots nozzle ≡ owned_row owners stroke.start (row_under h stroke.start nozzle)
+    (nozzle : ℕ) → nozzle < h.nozzles → shot_row stroke.shots nozzle ≡ owned_row owners stroke.start (row_under h stroke.start nozzle)
 
 -- ---- a head, and a plan of its strokes
 

@@ -23,8 +23,8 @@ pub record IsHead (h : Head) : Type 0 where
   pub is_live : least_live h.nozzles h.dead ≡ Some live
 
 -- how many rows the last nozzle is below the first
-abbrev pub head_rows : Head → ℕ
-head_rows h = (h.nozzles - 1) * h.pitch
+abbrev pub head_span : Head → ℕ
+head_span h = (h.nozzles - 1) * h.pitch
 
 -- a nozzle fires a row of the window
 pub record Shot : Type 0 where
@@ -40,7 +40,7 @@ pub record HeadStroke : Type 0 where
 abbrev pub row_under : Head → ℕ → ℕ → Option ℕ
 row_under h start nozzle =
     let place : ℕ = start + nozzle * h.pitch in
-    let first : ℕ = head_rows h in
+    let first : ℕ = head_span h in
     if nat_le first place && nat_lt (place - first) h.height then Some (place - first) else None
 
 -- a live nozzle fires the row under it, where that row is wanted
@@ -78,7 +78,7 @@ missing h = left_by (firings_of (regular_strokes h)) (count_from 0 h.height)
 
 -- the stroke in which a nozzle fires a row, and each live nozzle the row under it where that is one of `rows`
 abbrev pub make_up_stroke : Head → ℕ → ℕ → List ℕ → HeadStroke
-make_up_stroke h nozzle row rows = stroke_at h (has rows) (row + head_rows h - nozzle * h.pitch)
+make_up_stroke h nozzle row rows = stroke_at h (has rows) (row + head_span h - nozzle * h.pitch)
 
 -- At most so many strokes for rows in rising order: the nozzle fires the least of them, and then the least of those
 -- that are left.
@@ -122,7 +122,7 @@ FiresEachOnce wanted strokes = (row : ℕ) → count_by (λ (s : Shot). s.row ==
 pub record IsLiveShot (h : Head) (start : ℕ) (s : Shot) : Type 0 where
   pub nozzle : s.nozzle < h.nozzles
   pub live : has h.dead s.nozzle ≡ false
-  pub place : start + s.nozzle * h.pitch ≡ head_rows h + s.row
+  pub place : start + s.nozzle * h.pitch ≡ head_span h + s.row
 
 -- Only live nozzles fire, and only rows that are under them.
 abbrev pub AreLive : Head → List HeadStroke → Type 0

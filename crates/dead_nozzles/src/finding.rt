@@ -1,6 +1,6 @@
 //! Where strokes start.
 ghost use Rattle.dead_nozzles.specs.Plans.{ArePassOwners, Begins, IsStrokePlan};
-ghost use Rattle.dead_nozzles.specs.Strokes.{IsHead, head_rows};
+ghost use Rattle.dead_nozzles.specs.Strokes.{IsHead, head_span};
 ghost use Rattle.dead_nozzles.specs.Dead.{least_live};
 ghost use Rattle.std.specs.Prelude.{IfOk, Some, length, ◌+◌, ◌<◌, ◌≡◌};
 
@@ -12,7 +12,7 @@ use std::alloc::Global;
 // Whether a stroke starts here: a pass, or a make-up stroke where the nozzle that makes up is over a row that no
 // stroke fires yet. A make-up stroke takes its rows.
 fn begins(head: &WornHead, maker: u8, start: u32, owners: &mut [Option<u32>]) -> bool
-    requires start { start < head_rows head.now + head.now.height }
+    requires start { start < head_span head.now + head.now.height }
     requires maker { maker < head.now.nozzles }
     requires rows { length owners.old ≡ head.now.height }
     ensures { Begins head.now maker start owners.old owners.new result }

@@ -1,7 +1,7 @@
 //! The laws of strokes, each the contract of an empty function.
 ghost use Rattle.dead_nozzles.specs.Dead.{has};
 ghost use Rattle.dead_nozzles.specs.Examples.{first_is_dead, last_is_dead, one_is_live, three_nozzles};
-ghost use Rattle.dead_nozzles.specs.Strokes.{AreLive, FiresEachOnce, Head, IsHead, StartsRise, all_strokes, head_rows, make_up_strokes, missing};
+ghost use Rattle.dead_nozzles.specs.Strokes.{AreLive, FiresEachOnce, Head, IsHead, StartsRise, all_strokes, head_span, make_up_strokes, missing};
 ghost use Rattle.std.specs.List.{AllByRecursion};
 ghost use Rattle.std.specs.Prelude.{[], Some, length, nat_lt, ℕ, ◌+◌, ◌<◌, ◌≡◌, ◌≤◌, ◌∷◌};
 ghost use Rattle.weave_definitions.specs.Weave.{nozzle_row, pass_count};
@@ -34,7 +34,7 @@ pub fn starts_rise()
 
 /// Each stroke starts above the end of the window.
 pub fn strokes_start_above_the_end()
-    ensures { (h : Head) → IsHead h → AllByRecursion (λ s. s.start < head_rows h + h.height) (all_strokes h) }
+    ensures { (h : Head) → IsHead h → AllByRecursion (λ s. s.start < head_span h + h.height) (all_strokes h) }
 {}
 
 /// There are no more strokes than passes of the weave and missing rows, and no more missing rows than rows.

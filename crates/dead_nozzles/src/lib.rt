@@ -1,5 +1,5 @@
-//! Heads with dead nozzles: `check_dead` checks a list of them, and `specs/Strokes.antt` has the strokes of such a
-//! head. The regular strokes are the passes of the weave, in which only live nozzles fire; make-up strokes fire the
+//! Compensation of dead nozzles: `check_dead` checks a list of them, and `specs/Strokes.antt` has the strokes of such
+//! a head. The regular strokes are the passes of the weave, in which only live nozzles fire; make-up strokes fire the
 //! rows that these leave. `StrokePlan` is exactly these strokes, for the writer of pages: where each starts, and the
 //! row that each nozzle fires in it. `StrokePlan::make` takes its memory; no other call here takes any.
 //!

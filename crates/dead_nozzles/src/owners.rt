@@ -1,7 +1,7 @@
 //! Which stroke fires each row of the window.
 ghost use Rattle.dead_nozzles.specs.Dead.{has};
 ghost use Rattle.dead_nozzles.specs.Plans.{ArePassOwners, IsPassOwner, Takes, owner, taken};
-ghost use Rattle.dead_nozzles.specs.Strokes.{IsHead, head_rows, row_under};
+ghost use Rattle.dead_nozzles.specs.Strokes.{IsHead, head_span, row_under};
 ghost use Rattle.std.specs.Prelude.{IfOk, None, if◌then◌else◌, length, slice_set, ◌+◌, ◌<◌, ◌≡◌, ◌≤◌};
 
 use crate::worn::WornHead;
@@ -43,7 +43,7 @@ pub(crate) fn pass_owners(alloc: Global, head: &WornHead) -> Result<Vec<Option<u
 
 // The row under a live nozzle of a stroke.
 fn live_row(head: &WornHead, start: u32, nozzle: u8) -> Option<u32>
-    requires start { start < head_rows head.now + head.now.height }
+    requires start { start < head_span head.now + head.now.height }
     requires nozzle { nozzle < head.now.nozzles }
     ensures { result ≡ (if has head.now.dead nozzle then None else row_under head.now start nozzle) }
 {
@@ -66,7 +66,7 @@ fn take_row(row: u32, start: u32, owners: &mut [Option<u32>])
 
 /// Gives to the stroke that starts here the rows under its live nozzles that no stroke fires yet.
 pub(crate) fn take_rows(head: &WornHead, start: u32, owners: &mut [Option<u32>])
-    requires start { start < head_rows head.now + head.now.height }
+    requires start { start < head_span head.now + head.now.height }
     requires rows { length owners.old ≡ head.now.height }
     ensures { Takes head.now start owners.old owners.new }
 {

@@ -1,8 +1,8 @@
 //! The plan of the strokes of a head with dead nozzles.
 ghost use Rattle.base_definitions.specs.Limits.{most_rows};
 ghost use Rattle.dead_nozzles.specs.Dead.{IsRising, checked};
-ghost use Rattle.dead_nozzles.specs.Plans.{row_of, stroke_in};
-ghost use Rattle.dead_nozzles.specs.Strokes.{all_strokes, head_rows};
+ghost use Rattle.dead_nozzles.specs.Plans.{shot_row, stroke_in};
+ghost use Rattle.dead_nozzles.specs.Strokes.{all_strokes, head_span};
 ghost use Rattle.std.specs.Int.{IsGcd};
 ghost use Rattle.std.specs.Prelude.{IfOk, IfSome, Ok, length, ◌*◌, ◌+◌, ◌<◌, ◌^◌, ◌≡◌, ◌≤◌};
 
@@ -85,7 +85,7 @@ impl StrokePlan {
     pub fn row(&self, stroke: u32, nozzle: u8) -> Option<u32>
         requires stroke { stroke < length (all_strokes self.now) }
         requires nozzle { nozzle < self.now.nozzles }
-        ensures fires { result ≡ row_of (stroke_in (all_strokes self.now) stroke).shots nozzle }
+        ensures fires { result ≡ shot_row (stroke_in (all_strokes self.now) stroke).shots nozzle }
         ensures low { IfSome result (λ row. row < self.now.height) }
     {
         let start = self.start(stroke);
@@ -99,7 +99,7 @@ impl StrokePlan {
 
     /// How many rows the last nozzle is below the first. So many rows above the window the head begins.
     pub fn head_rows(&self) -> u32
-        ensures { result ≡ head_rows self.now }
+        ensures { result ≡ head_span self.now }
     {
         self.head.head_rows()
     }

@@ -2,7 +2,7 @@
 ghost use Rattle.base_definitions.specs.Limits.{most_rows};
 ghost use Rattle.dead_nozzles.specs.Dead.{IsRising, checked, has, least_live};
 ghost use Rattle.dead_nozzles.specs.Plans.{IsWorn};
-ghost use Rattle.dead_nozzles.specs.Strokes.{Head, IsHead, head_rows, row_under};
+ghost use Rattle.dead_nozzles.specs.Strokes.{Head, IsHead, head_span, row_under};
 ghost use Rattle.std.specs.Prelude.{Ok, Some, false, slice_index_or, true, ℕ, ◌*◌, ◌+◌, ◌/◌, ◌<◌, ◌≡◌, ◌≢◌, ◌≤◌};
 
 use std::marker::Model;
@@ -77,7 +77,7 @@ impl WornHead {
 
     /// How many rows the last nozzle is below the first.
     pub(crate) fn head_rows(&self) -> u32
-        ensures is { result ≡ head_rows self.now }
+        ensures is { result ≡ head_span self.now }
         ensures most { result ≤ 64770 }
         ensures worn { IsWorn self.now.nozzles self.now.pitch self.now.height }
     {
@@ -114,7 +114,7 @@ impl WornHead {
 
     /// The row of the window under a nozzle of a stroke.
     pub(crate) fn row_under(&self, start: u32, nozzle: u8) -> Option<u32>
-        requires start { start < head_rows self.now + self.now.height }
+        requires start { start < head_span self.now + self.now.height }
         requires nozzle { nozzle < self.now.nozzles }
         ensures { result ≡ row_under self.now start nozzle }
     {

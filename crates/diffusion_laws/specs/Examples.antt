@@ -24,17 +24,17 @@ abbrev pub minus : ℕ → ℤ
 minus n = pos 0 -ℤ pos n
 
 -- n numbers from i on
-abbrev pub counted : ℕ → ℕ → List ℕ
-counted i zero = []
-counted i (suc n) = i ∷ counted (i + 1) n
+abbrev pub numbers_from : ℕ → ℕ → List ℕ
+numbers_from i zero = []
+numbers_from i (suc n) = i ∷ numbers_from (i + 1) n
 
 -- the errors of row y of a page with this plane
 abbrev pub errors_of_row : Table → Plane → ℕ → List ℤ
-errors_of_row k p y = map (λ x. errors k p no_top (y + 2) (x + 4)) (counted 0 p.width)
+errors_of_row k p y = map (λ x. errors k p no_top (y + 2) (x + 4)) (numbers_from 0 p.width)
 
 -- the dots of row y of a page with this plane
 abbrev pub dots_of_row : Table → Plane → ℕ → List Bool
-dots_of_row k p y = map (λ x. on k p (errors k p no_top) y x) (counted 0 p.width)
+dots_of_row k p y = map (λ x. on k p (errors k p no_top) y x) (numbers_from 0 p.width)
 
 -- error e at one place of a list, and none at the places before it
 abbrev pub only_at : ℤ → ℕ → List ℤ
@@ -43,12 +43,12 @@ only_at e (suc i) = pos 0 ∷ only_at e i
 
 -- what a pixel of amount 0 gets from an error e at x - 1 and at x - 2 of its row
 abbrev pub given_by_same : Table → ℤ → List ℤ
-given_by_same k e = map (λ i. value k 0 (only_at e i) [] []) (counted 0 2)
+given_by_same k e = map (λ i. value k 0 (only_at e i) [] []) (numbers_from 0 2)
 
 -- what it gets from an error e at x - 2 to x + 2, one row above
 abbrev pub given_by_row : Table → ℤ → List ℤ
-given_by_row k e = map (λ i. value k 0 [] (only_at e i) []) (counted 0 5)
+given_by_row k e = map (λ i. value k 0 [] (only_at e i) []) (numbers_from 0 5)
 
 -- what it gets from an error e at x - 2 to x + 2, two rows above
 abbrev pub given_by_row2 : Table → ℤ → List ℤ
-given_by_row2 k e = map (λ i. value k 0 [] [] (only_at e i)) (counted 0 5)
+given_by_row2 k e = map (λ i. value k 0 [] [] (only_at e i)) (numbers_from 0 5)

@@ -7,7 +7,7 @@ use Rattle.printer_definitions.specs.Printer.{Printer, column_step, nozzle_step,
 use Rattle.escp2_definitions.specs.declared.command.RasterHead.{RasterHead}
 use Rattle.escp2_definitions.specs.declared.stops.EmulatorFault.TheVariants.{NotGraphics, Density, Rows, OffGrid, OffSheet, Overprint}
 use Rattle.escp2_definitions.specs.Commands.{last_column}
-use Rattle.escp2_definitions.specs.Machine.{Machine, Refusal, bottom_margin, first_fault, from_top, is_off_grid, is_other_density}
+use Rattle.escp2_definitions.specs.Machine.{Machine, Refusal, bottom_margin, first_refusal, from_top, is_off_grid, is_other_density}
 use Rattle.escp2_definitions.specs.Machine.{no_margins, no_unit, overprints, page_length, raster_dots, refuse, rows_dots}
 use Rattle.dot_emulator.specs.declared.firing.Raster.{Raster}
 use Rattle.dot_emulator.specs.declared.raster.Steps.{Steps}
@@ -43,7 +43,7 @@ placed p m header s r made = record {
   left = λ rows. none.more (refuse (nat_lt last_column (m.across / column_step p + header.n)
       || list_any (λ d. nat_le (bottom_margin m) d.y) (raster_dots m header rows)) OffSheet
       ∷ refuse (overprints m.dots (raster_dots m header rows)) Overprint ∷ [])
-      ∙ ap (λ b. first_fault (refuse (b || list_any (λ d. nat_le (bottom_margin m) d.y) (raster_dots m header rows)) OffSheet
+      ∙ ap (λ b. first_refusal (refuse (b || list_any (λ d. nat_le (bottom_margin m) d.y) (raster_dots m header rows)) OffSheet
       ∷ refuse (overprints m.dots (raster_dots m header rows)) Overprint ∷ [])) inside;
   fires = λ rows.
       ap (λ x. rows_dots header.m header m.colour x (from_top m) rows) (sym across_is)

@@ -5,7 +5,7 @@ use Rattle.std.specs.Prelude.{Some, None}
 use Rattle.std.specs.List.{AllByRecursion}
 use Rattle.std.proofs.lemmas.Bool.{cases_lt, eqb-true, le-leb, lt-leb}
 use Rattle.std.proofs.Math.Nat.{div-mul-le_self, le-div_iff_mul-le, lt-div-mul-add, mod-eq-sub-div-mul, mul-le-mul_right}
-use Rattle.escp2_definitions.specs.Machine.{Refusal, first_fault, refuse}
+use Rattle.escp2_definitions.specs.Machine.{Refusal, first_refusal, refuse}
 use Rattle.escp2_definitions.specs.declared.stops.EmulatorFault.{EmulatorFault}
 
 abbrev Holds : Refusal → Type 0
@@ -14,18 +14,18 @@ Holds r = r.holds ≡ false
 -- where no refusal holds, each test is false, and the later ones decide
 pub record NoneOf (tests : List Refusal) : Type 0 where
   pub each : AllByRecursion Holds tests
-  pub more : (others : List Refusal) → first_fault (tests ++ others) ≡ first_fault others
+  pub more : (others : List Refusal) → first_refusal (tests ++ others) ≡ first_refusal others
 
 some-is-none : {A : Type 0} {X : Type 0} (x : X) → Some x ≡ None → A
 some-is-none x e = cc
 
 none-at : (b : Bool) (fault : EmulatorFault) (tests : List Refusal)
-    → first_fault (refuse b fault ∷ tests) ≡ None → (first_fault tests ≡ None → NoneOf tests)
+    → first_refusal (refuse b fault ∷ tests) ≡ None → (first_refusal tests ≡ None → NoneOf tests)
     → NoneOf (refuse b fault ∷ tests)
 none-at true fault tests none behind = some-is-none fault none
 none-at false fault tests none behind = let later = behind none in record { each = (refl, later.each); more = later.more }
 
-pub none-of : (tests : List Refusal) → first_fault tests ≡ None → NoneOf tests
+pub none-of : (tests : List Refusal) → first_refusal tests ≡ None → NoneOf tests
 none-of [] none = record { each = tt; more = λ others. refl }
 none-of (test ∷ tests) none = none-at test.holds test.fault tests none (none-of tests)
 

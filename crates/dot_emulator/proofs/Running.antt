@@ -10,7 +10,7 @@ use Rattle.escp2_definitions.specs.declared.command.RasterHead.{RasterHead}
 use Rattle.escp2_definitions.specs.declared.command.Command.{Command}
 use Rattle.escp2_definitions.specs.declared.command.Command.TheVariants as c
 use Rattle.escp2_definitions.specs.declared.stops.EmulatorFault.TheVariants.{Backward, NoUnit, OffSheet, Overprint}
-use Rattle.escp2_definitions.specs.Machine.{Dot, Machine, after, bottom_margin, first_fault, given, has_dots}
+use Rattle.escp2_definitions.specs.Machine.{Dot, Machine, after, bottom_margin, first_refusal, given, has_dots}
 use Rattle.escp2_definitions.specs.Machine.{overprints, page_length, refusals, refuse}
 use Rattle.dot_planes.specs.Tables.{DotTable}
 use Rattle.dot_emulator.specs.declared.state.State.{State}
@@ -19,7 +19,7 @@ use Rattle.dot_emulator.specs.Pages.{sheet_rows}
 use Rattle.dot_emulator.specs.declared.firing.Raster.{Raster}
 use Rattle.dot_emulator.specs.Firing.{Grid, HasRows, IsAbove, PlanesHave, fired, late_fault}
 use Rattle.dot_emulator.specs.Places.{Placed, grid_of}
-use Rattle.dot_emulator.specs.Runs.{AreTaken, LaidIn, Runs, Shows, ShowsDots, Taken}
+use Rattle.dot_emulator.specs.Runs.{AreTaken, Emulates, LaidIn, Runs, ShowsDots, Taken}
 use Rattle.dot_emulator.specs.declared.emulator.Emulator.{Emulator}
 use Rattle.dot_emulator.specs.declared.raster.Steps.{Steps}
 use Rattle.dot_emulator.specs.declared.sheet.Sheet.{Sheet}
@@ -71,7 +71,7 @@ length-refused m false b some none =
     some-is-none Backward (sym (ap (λ d. if d then Some Backward else (if b then Some OffSheet else None)) some) ∙ none)
 
 pub kept : (p : Printer) (m : Machine) (command : Command) (rows : List ℕ) → is_plain command ≡ true → has_dots m ≡ true
-    → first_fault (refusals p m command rows) ≡ None → IsKept p m command rows
+    → first_refusal (refusals p m command rows) ≡ None → IsKept p m command rows
 kept p m c.Init rows e some none = init-refused m some none
 kept p m c.Graphics rows e some none = record { page = refl; columns = refl; dots = refl }
 kept p m (c.Unit n) rows e some none = record { page = refl; columns = refl; dots = refl }
@@ -106,7 +106,7 @@ no-dots p m (c.Colour ink) rows e none = none
 no-dots p m (c.Raster header) rows e none = absurd (false≢true e)
 
 pub plain-shows : (p : Printer) (m : Machine) (command : Command) (rows : List ℕ) (planes : Option DotTable) → is_plain command ≡ true
-    → first_fault (refusals p m command rows) ≡ None → ShowsDots p m planes → ShowsDots p (after p m command rows) planes
+    → first_refusal (refusals p m command rows) ≡ None → ShowsDots p m planes → ShowsDots p (after p m command rows) planes
 plain-shows p m command rows None e none shows = no-dots p m command rows e shows
 plain-shows p m command rows (Some t) e none shows =
     let stays : IsKept p m command rows = kept p m command rows e shows.0 none in
@@ -149,10 +149,10 @@ planes-have p m (Some t) shows = shows.1.places
 
 -- the refusals that depend on the dots, from the raster's place
 pub late : (p : Printer) (m : Machine) (header : RasterHead) (r : Raster) (rows : List ℕ) → Placed p m header r
-    → first_fault (refusals p m (c.Raster header) rows) ≡ late_fault (grid_of p m) r rows m.dots
+    → first_refusal (refusals p m (c.Raster header) rows) ≡ late_fault (grid_of p m) r rows m.dots
 late p m header r rows placed =
     placed.left rows
-    ∙ ap (λ (new : List Dot). first_fault (refuse (list_any (λ d. nat_le (bottom_margin m) d.y) new) OffSheet
+    ∙ ap (λ (new : List Dot). first_refusal (refuse (list_any (λ d. nat_le (bottom_margin m) d.y) new) OffSheet
     ∷ refuse (overprints m.dots new) Overprint ∷ [])) (placed.fires rows)
 
 -- the planes of a sheet have the rows down to its bottom margin
@@ -161,7 +161,7 @@ rows-high None height end rows low = omega arith
 rows-high (Some t) height end rows low = omega (arith, rows)
 
 -- where neither refusal holds, no dot is at or below the bottom margin
-pub above-margin : (off over : Bool) → first_fault (refuse off OffSheet ∷ refuse over Overprint ∷ []) ≡ None → off ≡ false
+pub above-margin : (off over : Bool) → first_refusal (refuse off OffSheet ∷ refuse over Overprint ∷ []) ≡ None → off ≡ false
 above-margin true over none = some-is-none OffSheet none
 above-margin false over none = refl
 
@@ -285,7 +285,7 @@ pub record IsEjected (p : Printer) (m : Machine) (old new : Emulator) (sheet : S
   pub taken : AreTaken old.planes sheet.planes
 
 pub eject-runs : (p : Printer) (m : Machine) (rows : List ℕ) (old new : Emulator) (sheet : Sheet)
-    → Shows p old m → IsEjected p m old new sheet → Runs p m c.Eject rows old new (Ok (Some sheet))
+    → Emulates p old m → IsEjected p m old new sheet → Runs p m c.Eject rows old new (Ok (Some sheet))
 eject-runs p m rows old new sheet shows e =
     let P : Machine → Type 0 = λ n. IsStep p n c.Eject (Ok new.state) in
     let step = subst P shows.state e.step in
@@ -320,7 +320,7 @@ pub record IsFired (p : Printer) (m : Machine) (header : RasterHead) (r : Raster
 
 -- the machine after a raster, from the state that the code takes
 pub raster-step : (p : Printer) (m : Machine)
-    (header : RasterHead) (r : Raster) (rows : List ℕ) (old : Emulator) (s : State) → Shows p old m → r.header ≡ header
+    (header : RasterHead) (r : Raster) (rows : List ℕ) (old : Emulator) (s : State) → Emulates p old m → r.header ≡ header
     → machine_of s (after p (machine_of old.state m.dots) (c.Raster r.header) rows).dots
     ≡ after p (machine_of old.state m.dots) (c.Raster r.header) rows
     → machine_of s (after p m (c.Raster header) rows).dots ≡ after p m (c.Raster header) rows
@@ -331,7 +331,7 @@ raster-step p m header r rows old s shows header_is step =
     subst M shows.state (subst H header_is step)
 
 pub fire-runs : (p : Printer) (m : Machine) (header : RasterHead) (r : Raster) (rows : List ℕ) (old new : Emulator)
-    → Shows p old m → IsFired p m header r rows old new
+    → Emulates p old m → IsFired p m header r rows old new
     → ShowsDots p (after p m (c.Raster header) rows) new.planes → Runs p m (c.Raster header) rows old new (Ok None)
 fire-runs p m header r rows old new shows f dots =
     let A : Steps → Type 0 = AreStepsOf p in

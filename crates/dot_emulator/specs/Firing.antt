@@ -4,7 +4,7 @@ use Rattle.std.specs.List.{list_any}
 use Rattle.escp2_definitions.specs.Commands.{row_bytes}
 use Rattle.escp2_definitions.specs.declared.stops.EmulatorFault.{EmulatorFault}
 use Rattle.escp2_definitions.specs.declared.stops.EmulatorFault.TheVariants.{OffSheet, Overprint}
-use Rattle.escp2_definitions.specs.Machine.{Dot, first_fault, overprints, refuse, rows_dots}
+use Rattle.escp2_definitions.specs.Machine.{Dot, first_refusal, overprints, refuse, rows_dots}
 use Rattle.dot_planes.specs.Tables.{DotTable}
 use Rattle.dot_emulator.specs.declared.firing.Raster.{Raster}
 use Rattle.dot_emulator.specs.Sheets.{HasPlaces}
@@ -43,7 +43,7 @@ PlanesHave g dots (Some t) = HasPlaces g.column g.row dots t
 -- why the dots of a raster are refused on a sheet with these dots: one is at or below the bottom margin, or where there
 -- is one already
 abbrev pub late_fault : Grid → Raster → List ℕ → List Dot → Option EmulatorFault
-late_fault g r rows dots = first_fault (
+late_fault g r rows dots = first_refusal (
     refuse (list_any (λ d. nat_le g.bottom d.y) (fired g r rows)) OffSheet
     ∷ refuse (overprints dots (fired g r rows)) Overprint
     ∷ [])

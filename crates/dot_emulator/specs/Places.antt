@@ -6,7 +6,7 @@ use Rattle.escp2_definitions.specs.declared.command.RasterHead.{RasterHead}
 use Rattle.escp2_definitions.specs.declared.command.Command.TheVariants as c
 use Rattle.escp2_definitions.specs.declared.stops.EmulatorFault.{EmulatorFault}
 use Rattle.escp2_definitions.specs.declared.stops.EmulatorFault.TheVariants.{OffSheet, Overprint}
-use Rattle.escp2_definitions.specs.Machine.{Machine, Refusal, bottom_margin, first_fault, overprints, raster_dots, refusals, refuse}
+use Rattle.escp2_definitions.specs.Machine.{Machine, Refusal, bottom_margin, first_refusal, overprints, raster_dots, refusals, refuse}
 use Rattle.dot_emulator.specs.declared.firing.Raster.{Raster}
 use Rattle.dot_emulator.specs.Firing.{Grid, Stands, fired}
 use Rattle.dot_emulator.specs.Pages.{sheet_rows}
@@ -23,7 +23,7 @@ late_refusals m header rows =
     ∷ []
 
 pub record Placed (p : Printer) (m : Machine) (header : RasterHead) (r : Raster) : Type 0 where
-  pub left : (rows : List ℕ) → first_fault (refusals p m (c.Raster header) rows) ≡ first_fault (late_refusals m header rows)
+  pub left : (rows : List ℕ) → first_refusal (refusals p m (c.Raster header) rows) ≡ first_refusal (late_refusals m header rows)
   pub fires : (rows : List ℕ) → raster_dots m header rows ≡ fired (grid_of p m) r rows
   pub stands : Stands (grid_of p m) r
   pub header_is : r.header ≡ header
@@ -32,4 +32,4 @@ pub record Placed (p : Printer) (m : Machine) (header : RasterHead) (r : Raster)
 
 abbrev pub IsPlaced : Printer → Machine → RasterHead → Result Raster EmulatorFault → Type 0
 IsPlaced p m header (Ok r) = Placed p m header r
-IsPlaced p m header (Err fault) = (rows : List ℕ) → first_fault (refusals p m (c.Raster header) rows) ≡ Some fault
+IsPlaced p m header (Err fault) = (rows : List ℕ) → first_refusal (refusals p m (c.Raster header) rows) ≡ Some fault

@@ -3,7 +3,7 @@ use Rattle.std.specs.Prelude.{◌≡◌, ℕ, true, List, [], ◌∷◌, ◌++�
 use Rattle.printer_definitions.specs.Printer.{Printer, column_step, row_step}
 use Rattle.escp2_definitions.specs.Commands.{last_column}
 use Rattle.escp2_definitions.specs.declared.command.Command.{Command}
-use Rattle.escp2_definitions.specs.Machine.{Dot, Machine, Sheet as PrintedSheet, after, first_fault, given, has_dots, refusals}
+use Rattle.escp2_definitions.specs.Machine.{Dot, Machine, Sheet as PrintedSheet, after, first_refusal, given, has_dots, refusals}
 use Rattle.dot_planes.specs.Tables.{DotTable}
 use Rattle.dot_emulator.specs.declared.emulator.Emulator.{Emulator}
 use Rattle.dot_emulator.specs.declared.emulator.EmulatorStop.{EmulatorStop}
@@ -28,7 +28,7 @@ ShowsDots p m None = m.dots ≡ []
 ShowsDots p m (Some t) = (has_dots m ≡ true) × HoldsDots (column_step p) (row_step p) m.columns m.dots t
 
 -- The emulator stands for this state of the machine, on this printer.
-pub record Shows (p : Printer) (e : Emulator) (m : Machine) : Type 0 where
+pub record Emulates (p : Printer) (e : Emulator) (m : Machine) : Type 0 where
   pub steps : AreStepsOf p e.steps
   pub state : machine_of e.state m.dots ≡ m
   pub dots : ShowsDots p m e.planes
@@ -43,9 +43,9 @@ IsGiven p sheets (Some sheet) = (s : PrintedSheet) × (sheets ≡ s ∷ []) × I
 -- the emulator is unchanged.
 abbrev pub Runs : Printer → Machine → Command → List ℕ → Emulator → Emulator → Result (Option Sheet) EmulatorStop → Type 0
 Runs p m command rows old new (Ok sheet) =
-    (first_fault (refusals p m command rows) ≡ None) × IsGiven p (given p m command) sheet × Shows p new (after p m command rows)
-Runs p m command rows old new (Err (Refused fault)) = (first_fault (refusals p m command rows) ≡ Some fault) × (new ≡ old)
-Runs p m command rows old new (Err Memory) = (first_fault (refusals p m command rows) ≡ None) × (new ≡ old)
+    (first_refusal (refusals p m command rows) ≡ None) × IsGiven p (given p m command) sheet × Emulates p new (after p m command rows)
+Runs p m command rows old new (Err (Refused fault)) = (first_refusal (refusals p m command rows) ≡ Some fault) × (new ≡ old)
+Runs p m command rows old new (Err Memory) = (first_refusal (refusals p m command rows) ≡ None) × (new ≡ old)
 
 -- ---- parts of a step
 

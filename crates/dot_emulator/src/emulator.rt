@@ -64,7 +64,7 @@ pub struct Emulator {
 impl Emulator {
     ghost use Rattle.dot_emulator.specs.Firing.{Grid, IsAbove, HasRows, PlanesHave, Stands};
     ghost use Rattle.dot_emulator.specs.Places.{IsPlaced};
-    ghost use Rattle.dot_emulator.specs.Runs.{LaidIn, Runs, Shows, Taken, TakesPlanes};
+    ghost use Rattle.dot_emulator.specs.Runs.{Emulates, LaidIn, Runs, Taken, TakesPlanes};
     ghost use Rattle.dot_emulator.specs.Sheets.{IsBlankFrom};
     ghost use Rattle.dot_emulator.specs.Steps.{AreStepsOf};
     ghost use Rattle.dot_emulator.specs.States.{is_plain, machine_of};
@@ -78,7 +78,7 @@ impl Emulator {
     /// dots of a sheet.
     pub fn make(alloc: Global, profile: &Profile) -> Emulator
         requires { IsOk (check profile.now) }
-        ensures { Shows profile.now result start }
+        ensures { Emulates profile.now result start }
     {
         checked_can_print(*profile);
         Emulator {
@@ -99,7 +99,7 @@ impl Emulator {
         requires in_range { in_table command.now ≡ true }
         requires rows_fit { length rows.now ≡ rows_len command.now }
         ensures { (p : Printer) (m : Machine)
-            → Shows p self.old m → Runs p m command.now rows.now self.old self.new result }
+            → Emulates p self.old m → Runs p m command.now rows.now self.old self.new result }
     {
         match *command {
             Command::Raster { head: header } => self.fire(header, rows),
@@ -110,7 +110,7 @@ impl Emulator {
 
     /// Whether a dot was fired on the current sheet.
     pub fn has_dots(&self) -> bool
-        ensures { (p : Printer) (m : Machine) → Shows p self.now m → result ≡ has_dots m }
+        ensures { (p : Printer) (m : Machine) → Emulates p self.now m → result ≡ has_dots m }
     {
         self.planes.is_some()
     }
@@ -119,7 +119,7 @@ impl Emulator {
     /// made nor cleared. What the emulator stands for is unchanged.
     pub fn keep(&mut self, sheet: Sheet)
         requires { IsBlankFrom 0 sheet.planes }
-        ensures { (p : Printer) (m : Machine) → Shows p self.old m → Shows p self.new m }
+        ensures { (p : Printer) (m : Machine) → Emulates p self.old m → Emulates p self.new m }
     {
         self.spare = Some(sheet.planes);
     }
@@ -129,7 +129,7 @@ impl Emulator {
         requires plain { is_plain command ≡ true }
         requires in_range { in_table command ≡ true }
         ensures { (p : Printer) (m : Machine) (rows : List ℕ)
-            → Shows p self.old m → Runs p m command rows self.old self.new result }
+            → Emulates p self.old m → Runs p m command rows self.old self.new result }
     {
         self.state = self.state.after(command, self.planes.is_some())?;
         self.drop_unfit();
@@ -139,7 +139,7 @@ impl Emulator {
     // Spare planes of another height than the page's go before others are made, so that the peak of memory is that of
     // one sheet. While no length is set they stay.
     fn drop_unfit(&mut self)
-        ensures { (p : Printer) (m : Machine) → Shows p self.old m → Shows p self.new m }
+        ensures { (p : Printer) (m : Machine) → Emulates p self.old m → Emulates p self.new m }
     {
         let rows = self.rows();
         if 0 < rows && !has_rows(&self.spare, rows) {
@@ -156,7 +156,7 @@ impl Emulator {
 
     fn eject(&mut self) -> Result<Option<Sheet>, EmulatorStop>
         ensures { (p : Printer) (m : Machine) (rows : List ℕ)
-            → Shows p self.old m → Runs p m c.Eject rows self.old self.new result }
+            → Emulates p self.old m → Runs p m c.Eject rows self.old self.new result }
     {
         let state = self.state.eject()?;
         let planes = self.take_planes()?;
@@ -173,7 +173,7 @@ impl Emulator {
         requires in_range { in_table (c.Raster header) ≡ true }
         requires rows_fit { length rows.now ≡ rows_len (c.Raster header) }
         ensures { (p : Printer) (m : Machine)
-            → Shows p self.old m → Runs p m (c.Raster header) rows.now self.old self.new result }
+            → Emulates p self.old m → Runs p m (c.Raster header) rows.now self.old self.new result }
     {
         let raster = self.place(header)?;
         let has_dots = raster.look(rows, &self.planes)?;

@@ -1,6 +1,6 @@
 //! Emulates a printer: the sheets that print jobs make, dot by dot.
 //!
-//! An `Emulator` stands for a machine of the definitions (`Shows`), with the dots on its sheet. `run` does exactly
+//! An `Emulator` stands for a machine of the definitions (`Emulates`), with the dots on its sheet. `run` does exactly
 //! what the machine does (`Runs`): it takes the machine's next state and gives the sheet that the command ejects, or
 //! answers the machine's first refusal, or `Memory`. After a refusal and after `Memory` the emulator is unchanged.
 //! The planes of a sheet are made for its first dot, and for a blank sheet at its eject. A blank sheet can be handed

@@ -113,9 +113,9 @@ abbrev pub refuse : Bool → EmulatorFault → Refusal
 refuse holds fault = record { holds = holds; fault = fault }
 
 -- the first refusal that holds
-abbrev pub first_fault : List Refusal → Option EmulatorFault
-first_fault [] = None
-first_fault (refusal ∷ refusals) = if refusal.holds then Some refusal.fault else first_fault refusals
+abbrev pub first_refusal : List Refusal → Option EmulatorFault
+first_refusal [] = None
+first_refusal (refusal ∷ refusals) = if refusal.holds then Some refusal.fault else first_refusal refusals
 
 -- refused where no unit was set
 abbrev pub no_unit : Machine → Refusal
@@ -212,7 +212,7 @@ with_sheets sheets run = record { sheets = sheets ++ run.sheets; refused = run.r
 -- The run of commands from a state on. It ends at the first that is refused.
 unfoldable pub execute_from : Printer → Machine → List Entry → Printed
 execute_from p s [] = record { sheets = []; refused = None }
-execute_from p s (entry ∷ entries) = elim (first_fault (refusals p s entry.command entry.rows)) [
+execute_from p s (entry ∷ entries) = elim (first_refusal (refusals p s entry.command entry.rows)) [
   | Some fault ↦ record { sheets = []; refused = Some (record { at = entry.at; fault = fault }) }
   | None ↦ with_sheets (given p s entry.command) (execute_from p (after p s entry.command entry.rows) entries)
 ]

@@ -6,12 +6,12 @@ use Rattle.escp2_definitions.specs.declared.command.Command.{Command}
 use Rattle.escp2_definitions.specs.declared.command.Command.TheVariants as c
 use Rattle.escp2_definitions.specs.declared.stops.EmulatorFault.{EmulatorFault}
 use Rattle.escp2_definitions.specs.Commands.{Entry}
-use Rattle.escp2_definitions.specs.Machine.{Machine, Printed, execute, first_fault, refusals, start}
+use Rattle.escp2_definitions.specs.Machine.{Machine, Printed, execute, first_refusal, refusals, start}
 use Rattle.escp2_laws.specs.Examples.{said}
 
 -- what a command is refused for in a state
 abbrev pub fault_of : Machine → Command → List ℕ → Option EmulatorFault
-fault_of s command rows = first_fault (refusals tiny1 s command rows)
+fault_of s command rows = first_refusal (refusals tiny1 s command rows)
 
 -- graphics mode, without a unit
 abbrev pub in_graphics : Machine
@@ -42,8 +42,8 @@ abbrev pub sheet_begins : List Entry
 sheet_begins = said 0 c.Graphics ∷ said 1 (c.Unit 5) ∷ said 2 (c.Length 12) ∷ said 3 (c.Margins 0 12) ∷ []
 
 -- a row of this many columns, from the head's position on
-abbrev pub row_of : ℕ → List ℕ → Entry
-row_of n row = record { at = 4; command = raster 10 10 1 n; rows = row }
+abbrev pub row_entry : ℕ → List ℕ → Entry
+row_entry n row = record { at = 4; command = raster 10 10 1 n; rows = row }
 
 -- what the sheet becomes
 abbrev pub printed_by : List Entry → Printed

@@ -9,7 +9,7 @@ ghost use Rattle.escp2_definitions.specs.declared.stops.EmulatorFault.TheVariant
 ghost use Rattle.escp2_definitions.specs.declared.stops.EmulatorFault.TheVariants.{NotGraphics, OffGrid, OffSheet, Rows};
 ghost use Rattle.escp2_definitions.specs.declared.stops.JobCause.TheVariants.{RunCode};
 ghost use Rattle.escp2_laws.specs.Examples.{said};
-ghost use Rattle.escp2_laws.specs.Machines.{fault_of, in_graphics, off_column, on_sheet, printed_by, raster, row_of};
+ghost use Rattle.escp2_laws.specs.Machines.{fault_of, in_graphics, off_column, on_sheet, printed_by, raster, row_entry};
 ghost use Rattle.escp2_laws.specs.Machines.{sheet_begins, with_dot, with_unit};
 ghost use Rattle.printer_definitions.specs.declared.inks.Ink.TheVariants.{Black, Cyan, Magenta, Yellow};
 ghost use Rattle.std.specs.Prelude.{None, Some, [], ◌++◌, ◌∷◌, ◌≡◌};
@@ -17,7 +17,7 @@ ghost use Rattle.std.specs.Prelude.{None, Some, [], ◌++◌, ◌∷◌, ◌≡�
 /// Dots are set at the head's position, spare bits of a row are no dots, and a blank row widens its sheet too.
 pub fn rows_are_printed()
     // two columns to the right, the first and the third of three columns; bits of five more columns
-    ensures across { printed_by (said 4 (c.Across 4) ∷ row_of 3 (0xBF ∷ []) ∷ said 5 c.Eject ∷ []) ≡ record {
+    ensures across { printed_by (said 4 (c.Across 4) ∷ row_entry 3 (0xBF ∷ []) ∷ said 5 c.Eject ∷ []) ≡ record {
       sheets = record {
         rows = 6;
         columns = 5;
@@ -25,7 +25,7 @@ pub fn rows_are_printed()
       } ∷ [];
       refused = None;
     } }
-    ensures blank { printed_by (row_of 16 (0x00 ∷ 0x00 ∷ []) ∷ said 5 c.Eject ∷ []) ≡ record {
+    ensures blank { printed_by (row_entry 16 (0x00 ∷ 0x00 ∷ []) ∷ said 5 c.Eject ∷ []) ≡ record {
       sheets = record { rows = 6; columns = 16; dots = [] } ∷ [];
       refused = None;
     } }
@@ -33,9 +33,9 @@ pub fn rows_are_printed()
 
 /// A sheet begins with one column: after the sheet before it, and after a reset.
 pub fn sheets_begin_narrow()
-    ensures eject { (printed_by (row_of 8 (0x00 ∷ []) ∷ said 5 c.Eject ∷ said 6 c.Eject ∷ [])).sheets ≡
+    ensures eject { (printed_by (row_entry 8 (0x00 ∷ []) ∷ said 5 c.Eject ∷ said 6 c.Eject ∷ [])).sheets ≡
         record { rows = 6; columns = 8; dots = [] } ∷ record { rows = 6; columns = 1; dots = [] } ∷ [] }
-    ensures init { (printed_by (row_of 8 (0x00 ∷ []) ∷ said 5 c.Init ∷ (sheet_begins ++ said 6 c.Eject ∷ []))).sheets ≡
+    ensures init { (printed_by (row_entry 8 (0x00 ∷ []) ∷ said 5 c.Init ∷ (sheet_begins ++ said 6 c.Eject ∷ []))).sheets ≡
         record { rows = 6; columns = 1; dots = [] } ∷ [] }
 {}
 

@@ -17,7 +17,7 @@ use Rattle.escp2_rows.specs.Reading.{IsFault, IsMore, IsWhole, StandsFor as Rows
 use Rattle.escp2_reader.specs.declared.reader.JobReader.{JobReader}
 use Rattle.escp2_reader.specs.declared.reader.Stage.{Stage}
 use Rattle.escp2_reader.specs.declared.reader.Stage.TheVariants.{Rows}
-use Rattle.escp2_reader.specs.Stages.{AtStage, InRows, Stands, form_of, rows_at}
+use Rattle.escp2_reader.specs.Stages.{AtStage, InRows, Stands, rows_at, rows_form}
 use Rattle.escp2_reader.specs.Reading.{BeginsRows, HeardMore, ShowsLast}
 use Rattle.escp2_reader.proofs.Hearing.{bytes-append, bytes-take, last-behind}
 
@@ -46,7 +46,7 @@ rows-more {raster} {old} {new} {begin} used {before} sofar piece {job} stood are
       ∙ reads-on raster old before sofar (take used piece) [] in_rows
       ∙ in_rows.reads (in_rows.code ++ (take used piece ++ []))
       ∙ ap (λ bs. with_rows raster (if_rows (in_rows.code ++ bs))) (append-nil (take used piece) ∙ all)
-      ∙ ap (with_rows raster) (more.part (form_of raster) in_rows.code before in_rows.stands);
+      ∙ ap (with_rows raster) (more.part (rows_form raster) in_rows.code before in_rows.stands);
   stands = record {
     fed = omega (arith, stood.fed, nexts, begins, length-append sofar (take used piece), length-take-le used piece within);
     bytes = bytes-append sofar (take used piece) stood.bytes (bytes-take used piece are);
@@ -57,8 +57,8 @@ rows-more {raster} {old} {new} {begin} used {before} sofar piece {job} stood are
           is = ap (λ bs. bs ++ take used piece) in_rows.is ∙ append_assoc in_rows.front in_rows.code (take used piece);
           front_len = in_rows.front_len;
           reads = in_rows.reads;
-          stands = let Q : List ℕ → Type 0 = RowsStandFor (form_of raster) new (in_rows.code ++ take used piece) in
-              subst Q (sym (rows_are ∙ takes.appended)) (takes.gives.stands (form_of raster) in_rows.code before in_rows.stands);
+          stands = let Q : List ℕ → Type 0 = RowsStandFor (rows_form raster) new (in_rows.code ++ take used piece) in
+              subst Q (sym (rows_are ∙ takes.appended)) (takes.gives.stands (rows_form raster) in_rows.code before in_rows.stands);
         };
   };
   begins = begins;
@@ -69,7 +69,7 @@ rows-more {raster} {old} {new} {begin} used {before} sofar piece {job} stood are
     in_rows = stood.heard
 
     if_rows : List ℕ → RowsRead
-    if_rows bytes = rows_read (form_of raster) bytes
+    if_rows bytes = rows_read (rows_form raster) bytes
 
     within : used ≤ length piece
     within = omega (arith, more.all)
@@ -78,7 +78,7 @@ rows-more {raster} {old} {new} {begin} used {before} sofar piece {job} stood are
     all = take_all used piece (omega (arith, more.all))
 
 -- the rows, as their reader reads them
-read-rows : (raster : RasterHead) (bytes : List ℕ) → raster_rows raster bytes ≡ with_rows raster (rows_read (form_of raster) bytes)
+read-rows : (raster : RasterHead) (bytes : List ℕ) → raster_rows raster bytes ≡ with_rows raster (rows_read (rows_form raster) bytes)
 read-rows raster bytes = refl
 
 -- the last of the rows
@@ -90,8 +90,8 @@ rows-whole {raster} {old} used {before} {after} sofar piece rest stood within ta
     reads-on raster old before sofar (take used piece) rest in_rows
     ∙ in_rows.reads (in_rows.code ++ (take used piece ++ rest))
     ∙ read-rows raster (in_rows.code ++ (take used piece ++ rest))
-    ∙ ap (λ bs. with_rows raster (rows_read (form_of raster) bs)) (sym (append_assoc in_rows.code (take used piece) rest))
-    ∙ ap (with_rows raster) (whole.whole (form_of raster) in_rows.code before rest in_rows.stands)
+    ∙ ap (λ bs. with_rows raster (rows_read (rows_form raster) bs)) (sym (append_assoc in_rows.code (take used piece) rest))
+    ∙ ap (with_rows raster) (whole.whole (rows_form raster) in_rows.code before rest in_rows.stands)
     ∙ ap (λ bs. One (c.Raster raster) bs (8 + length in_rows.code + used)) given
     ∙ ap (One (c.Raster raster) after) there
   where
@@ -119,8 +119,8 @@ rows-wrong {raster} {old} used {at} {place} {before} sofar piece rest stood faul
     reads-on raster old before sofar (take used piece) rest in_rows
     ∙ in_rows.reads (in_rows.code ++ (take used piece ++ rest))
     ∙ read-rows raster (in_rows.code ++ (take used piece ++ rest))
-    ∙ ap (λ bs. with_rows raster (rows_read (form_of raster) bs)) (sym (append_assoc in_rows.code (take used piece) rest))
-    ∙ ap (with_rows raster) (fault.wrong (form_of raster) in_rows.code before rest in_rows.stands)
+    ∙ ap (λ bs. with_rows raster (rows_read (rows_form raster) bs)) (sym (append_assoc in_rows.code (take used piece) rest))
+    ∙ ap (with_rows raster) (fault.wrong (rows_form raster) in_rows.code before rest in_rows.stands)
     ∙ ap (λ k. Wrong k RunCode) there
   where
     in_rows : InRows raster old before sofar
@@ -149,7 +149,7 @@ rows-last raster old new begin next used at before sofar piece stood fault = rec
 -- before the rows of a raster
 pub rows-begin : {raster : RasterHead} {reader : RowReader} {begin next : ℕ} (used : ℕ) {rows : List ℕ} (sofar piece : List ℕ)
     → BeginsRows raster begin next sofar (take used piece)
-    → used ≤ length piece → RowsStandFor (form_of raster) reader [] [] → rows ≡ []
+    → used ≤ length piece → RowsStandFor (rows_form raster) reader [] [] → rows ≡ []
     → Stands (Rows raster reader) begin (next + used) rows (sofar ++ take used piece)
 rows-begin {raster} {reader} used sofar piece begins within anew none = record {
   fed = omega (arith, begins.fed, length-append sofar (take used piece), length-take-le used piece within);
@@ -160,14 +160,14 @@ rows-begin {raster} {reader} used sofar piece begins within anew none = record {
     is = sym (append-nil (sofar ++ take used piece));
     front_len = begins.front_len;
     reads = begins.reads;
-    stands = let P : List ℕ → Type 0 = RowsStandFor (form_of raster) reader [] in subst P (sym none) anew;
+    stands = let P : List ℕ → Type 0 = RowsStandFor (rows_form raster) reader [] in subst P (sym none) anew;
   };
 }
 
 -- a fault in rows that begin within a piece shows with the last byte that was used
 pub begin-last : {raster : RasterHead} (reader : RowReader) {begin next : ℕ} (used : ℕ) {more : ℕ} {rows : List ℕ} (piece : List ℕ)
     {rest : List ℕ}
-    → rest ≡ drop used piece → used ≤ length piece → RowsStandFor (form_of raster) reader [] [] → rows ≡ []
+    → rest ≡ drop used piece → used ≤ length piece → RowsStandFor (rows_form raster) reader [] [] → rows ≡ []
     → ((sofar : List ℕ) → Stands (Rows raster reader) begin (next + used) rows sofar → ShowsLast sofar rest more)
     → (sofar : List ℕ) → BeginsRows raster begin next sofar (take used piece) → ShowsLast sofar piece (used + more)
 begin-last reader used {more} piece {rest} is within anew none shows sofar begins =

@@ -13,8 +13,8 @@ use Rattle.escp2_reader.specs.declared.reader.Stage.TheVariants.{Header, Rows, F
 -- ---- what was read of a command
 
 -- the rows of a raster, after its eight bytes
-abbrev pub form_of : RasterHead → RowsForm
-form_of raster = record { c = raster.c; width = row_bytes raster; rows = raster.m; at = 8 }
+abbrev pub rows_form : RasterHead → RowsForm
+rows_form raster = record { c = raster.c; width = row_bytes raster; rows = raster.m; at = 8 }
 
 -- Within the rows of a raster: its numbers, and the rows that the bytes after them gave.
 pub record InRows (raster : RasterHead) (reader : RowReader) (rows sofar : List ℕ) : Type 0 where
@@ -23,7 +23,7 @@ pub record InRows (raster : RasterHead) (reader : RowReader) (rows sofar : List 
   pub is : sofar ≡ front ++ code
   pub front_len : length front ≡ 8
   pub reads : (more : List ℕ) → command_at (front ++ more) ≡ raster_rows raster more
-  pub stands : RowsStandFor (form_of raster) reader code rows
+  pub stands : RowsStandFor (rows_form raster) reader code rows
 
 -- After a fault, which is read whatever follows.
 pub record AfterFault (begin offset : ℕ) (cause : JobCause) (sofar : List ℕ) : Type 0 where

@@ -23,7 +23,7 @@ use Rattle.pwg_stream.specs.declared.reader.PageReader.{PageReader}
 use Rattle.pwg_stream.specs.Reading.{BeginsPage, GivesLines, HasLineFault, has_ended, line_of}
 use Rattle.pwg_stream.specs.Reading.{lines_left_of, lines_of, page_of, stop_of, text_of}
 use Rattle.pwg_stream.specs.Stops.{OnInput}
-use Rattle.pwg_stream.specs.Taken.{MoreMayMend, TakesNoGroup, TakesNoPage}
+use Rattle.pwg_stream.specs.Taken.{StreamMayGoOn, TakesNoGroup, TakesNoPage}
 use Rattle.buffered_bytes.specs.Text.{UsesSome}
 use Rattle.pwg_stream.specs.declared.stops.StreamStop.{StreamStop}
 use Rattle.pwg_stream.specs.declared.stops.StreamStop.TheVariants as stop
@@ -177,7 +177,7 @@ page_cut want old now before left left' page so_far some takes =
     let is = ap (λ k. pages_from want k (page_of old + 1) bytes) fuel
     ∙ pages-read want (9998 - page_of old) (page_of old + 1) bytes (Broken line cause.Truncated)
     (omega (arith, so_far.some, length-append so_far.bytes takes.bytes)) cut in
-    let P : Stream → Type 0 = λ s. MoreMayMend s.end in record {
+    let P : Stream → Type 0 = λ s. StreamMayGoOn s.end in record {
       bytes = bytes;
       taken = Consumes-trans (text_of old before) (text_of now left) left' so_far.bytes takes.bytes so_far.used takes.taken;
       none = ap (λ (s : Stream). s.pages) is;

@@ -16,7 +16,7 @@ use Rattle.pwg_definitions.specs.Stream.StreamEnd.{Fault}
 use Rattle.pwg_stream.specs.declared.reader.PageReader.{PageReader}
 use Rattle.pwg_stream.specs.declared.stops.StreamStop.{StreamStop}
 use Rattle.pwg_stream.specs.declared.stops.StreamStop.TheVariants as stop
-use Rattle.pwg_stream.specs.Reading.{form_of, has_ended, line_of, lines_left_of, page_of, stop_of, text_of}
+use Rattle.pwg_stream.specs.Reading.{current_form, has_ended, line_of, lines_left_of, page_of, stop_of, text_of}
 use Rattle.pwg_stream.specs.Stops.{OnInput}
 use Rattle.pwg_stream.specs.Taken.{TakesNoPage}
 use Rattle.separation_definitions.specs.Windows.{wanted_by}
@@ -34,7 +34,7 @@ pub record PageSoFar (want : Wanted) (old now : PageReader) (before left : Optio
   pub enough : lines_left_of now ≤ most
   pub is : (rest : List ℕ) → page_at want (bytes ++ rest)
       ≡ page_of_lines page.form (with_lines page.lines (rest_of page.form most (lines_left_of now) rest))
-  pub form_is : form_of now ≡ Some page.form
+  pub form_is : current_form now ≡ Some page.form
   pub number : page_of now ≡ page_of old + 1
   pub last : page_of now ≤ most_pages
   pub unended : has_ended now ≡ has_ended old
@@ -73,7 +73,7 @@ pub record HalftonedSoFar (b : Begun) (now : PageReader) (left : Option (List �
 
 -- the page may be read on: no stop stands, and the lines that are left are among those that are to be placed
 pub record MayReadOn (r : PageReader) (f : Filling) : Type 0 where
-  pub form_is : form_of r ≡ Some f.form
+  pub form_is : current_form r ≡ Some f.form
   pub going : stop_of r ≡ None
   pub given : f.count + lines_left_of r ≤ f.form.height
 

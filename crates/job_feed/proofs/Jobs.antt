@@ -22,7 +22,7 @@ use Rattle.job_feed.specs.declared.feed.JobFeed.{JobFeed}
 use Rattle.weave_base.specs.Causes.{Rose}
 use Rattle.job_feed.specs.declared.feed.PlacedCommand.{PlacedCommand}
 use Rattle.job_feed.specs.Feeding.{HasEnded, IsRefused, IsStopped, TakesCommand, TakesPart, at_of, heard_of, most_of, text_of, unread_of}
-use Rattle.job_feed.specs.Jobs.{AreCommands, Ends, MeetsStop, MoreMayMend, TakesAllCommands, TakesCommands, TakesJob, commands_behind, with_entries}
+use Rattle.job_feed.specs.Jobs.{AreCommands, Ends, JobMayGoOn, MeetsStop, TakesAllCommands, TakesCommands, TakesJob, commands_behind, with_entries}
 
 -- as many steps as there are bytes are enough
 enough : (most more at : ℕ) (bytes : List ℕ) → length bytes ≤ most → length bytes ≤ more
@@ -284,11 +284,11 @@ takes_all feed now before text left entries part gave takes none =
     subst P same (source_taken now before left bytes
     (Consumes-trans before text (text_of now left) gave.done part gave.taken takes.taken)) in
     let ends = by_part part takes.part takes.within in
-    let Q : Option Stopped → Type 0 = MoreMayMend in
+    let Q : Option Stopped → Type 0 = JobMayGoOn in
     record { bytes = bytes; taken = taken; are = ends.1.are; end = subst Q (sym ends.1.stop_is) ends.2 }
   where
     by_part : (part : List ℕ) → command_at part ≡ Part → at_of feed + length part ≤ most_of feed
-        → (why : Option Stopped) × Ends (most_of feed) (gave.done ++ part) entries why × MoreMayMend why
+        → (why : Option Stopped) × Ends (most_of feed) (gave.done ++ part) entries why × JobMayGoOn why
     by_part [] less within =
         let P : List ℕ → Type 0 = λ bs. Ends (most_of feed) bs entries None in (
           None,
@@ -307,7 +307,7 @@ takes_all feed now before text left entries part gave takes none =
 pub nothing_taken : (most : ℕ) (left : Option (List ℕ)) → TakesAllCommands most left left []
 nothing_taken most left =
     let ends = ends_whole [] most [] commands_none (omega arith) in
-    let Q : Option Stopped → Type 0 = MoreMayMend in
+    let Q : Option Stopped → Type 0 = JobMayGoOn in
     record { bytes = []; taken = Consumes-nil left; are = ends.are; end = subst Q (sym ends.stop_is) tt }
 
 pub job_ended : (feed now : JobFeed) (before text left : Option (List ℕ)) (entries : List Entry) → GaveCommands feed before text entries

@@ -31,16 +31,16 @@ pub record Ends (most : ℕ) (bytes : List ℕ) (entries : List Entry) (stop : O
   pub stop_is : list_stop (commands (take most bytes)).end most (length bytes) ≡ stop
 
 -- Where a job stops, more bytes could mend it: nothing stops it, or it ends inside a command.
-abbrev pub MoreMayMend : Option Stopped → Type 0
-MoreMayMend None = Unit {0}
-MoreMayMend (Some stop) = stop.why ≡ job_stop.Cut
+abbrev pub JobMayGoOn : Option Stopped → Type 0
+JobMayGoOn None = Unit {0}
+JobMayGoOn (Some stop) = stop.why ≡ job_stop.Cut
 
 -- These are all commands of the bytes that were taken of a job, which more bytes could mend.
 pub record TakesAllCommands (most : ℕ) (before now : Option (List ℕ)) (entries : List Entry) : Type 0 where
   pub bytes : List ℕ
   pub taken : Consumes before now bytes
   pub are : (commands (take most bytes)).entries ≡ entries
-  pub end : MoreMayMend (job_end bytes most None)
+  pub end : JobMayGoOn (job_end bytes most None)
 
 -- The job was taken whole, and its commands are these.
 pub record TakesJob (most : ℕ) (before now : Option (List ℕ)) (entries : List Entry) : Type 0 where

@@ -17,7 +17,7 @@ use Rattle.job_lister.specs.Listing.{line_of, listing}
 use Rattle.job_lister.specs.declared.lister.ListStop.{ListStop}
 use Rattle.job_lister.specs.declared.lister.ListStop.TheVariants as stop
 use Rattle.job_lister.specs.Lines.{feed_stop}
-use Rattle.job_lister.specs.Outcome.{ListOutcome, ListsAll}
+use Rattle.job_lister.specs.Outcome.{ListResult, ListsAll}
 use Rattle.buffered_bytes.specs.Outside.{Outside}
 use Rattle.weave_base.specs.Causes.{Rose}
 use Rattle.weave_base.specs.Parts.{AppendsPart}
@@ -57,7 +57,7 @@ lists_more old new g after {before} {text} left {held} {now} {now'} placed so_fa
 pub lists_part : (feed new : JobFeed) (g : Gathered) {before text left held now now' : Option (List ℕ)} (bytes : List ℕ)
     {f0 f1 g0 g1 g2 : ℕ} → ListsSoFar feed g before text held now
     → Consumes text (text_of new left) bytes → AppendsPart now now' (gathered g) → g0 ≤ g1 → Rose g1 g2
-    → ListOutcome (most_of feed) (record { before = before; now = left; faults_before = f0; faults_now = f1 })
+    → ListResult (most_of feed) (record { before = before; now = left; faults_before = f0; faults_now = f1 })
     (record { before = held; now = now'; faults_before = g0; faults_now = g2 }) (Err stop.Write)
 lists_part feed new g {before} {text} {left} {held} {now} {now'} bytes {g0} {g1} {g2} so_far takes part later rose = (
   rose_within g0 g1 g2 g2 later rose (omega arith),
@@ -84,14 +84,14 @@ pub lists_to_stop : (most : ℕ) (feed new : JobFeed) (g : Gathered) {text now :
     → ListsSoFar feed g input.before text out.before now → IsStopped feed text (text_of new input.now) faults input.faults_now why
     → input.faults_before ≤ faults → Appends now out.now (gathered g)
     → (why ≡ feed_is.Read → unread_of new ≡ []) → most_of feed ≡ most → answer ≡ feed_stop why
-    → ListOutcome most input out (Err answer)
+    → ListResult most input out (Err answer)
 lists_to_stop most feed new g {text} {now} input out faults why answer so_far stopped later all used most_is is =
-    let P : ℕ → Type 0 = λ n. ListOutcome n input out (Err answer) in
-    let Q : ListStop → Type 0 = λ stop. ListOutcome (most_of feed) input out (Err stop) in
+    let P : ℕ → Type 0 = λ n. ListResult n input out (Err answer) in
+    let Q : ListStop → Type 0 = λ stop. ListResult (most_of feed) input out (Err stop) in
     subst P most_is (subst Q (sym is) (by_stop why stopped used))
   where
     by_stop : (why : FeedStop) → IsStopped feed text (text_of new input.now) faults input.faults_now why
-        → (why ≡ feed_is.Read → unread_of new ≡ []) → ListOutcome (most_of feed) input out (Err (feed_stop why))
+        → (why ≡ feed_is.Read → unread_of new ≡ []) → ListResult (most_of feed) input out (Err (feed_stop why))
     by_stop (feed_is.Job offset cause) stopped used = record {
       entries = so_far.entries;
       meets = job_refused feed input.before text (text_of new input.now) so_far.entries offset cause so_far.gave stopped;
@@ -108,7 +108,7 @@ lists_to_stop most feed new g {text} {now} input out faults why answer so_far st
 
 -- there is no memory at the beginning
 pub lists_nothing : (most : ℕ) {left held : Option (List ℕ)} {f0 f1 g0 g1 : ℕ}
-    → ListOutcome most (record { before = left; now = left; faults_before = f0; faults_now = f1 })
+    → ListResult most (record { before = left; now = left; faults_before = f0; faults_now = f1 })
     (record { before = held; now = held; faults_before = g0; faults_now = g1 }) (Err stop.Memory)
 lists_nothing most {left} {held} = record {
   entries = [];

@@ -35,9 +35,9 @@ pub record ListsPart (most : ℕ) (input out : Outside) : Type 0 where
   pub writes : AppendsPart out.before out.now (listing entries)
 
 -- how the listing of a job of at most `most` bytes ends
-abbrev pub ListOutcome : ℕ → Outside → Outside → Result (Unit {0}) ListStop → Type 0
-ListOutcome most input out (Ok u) = ListsAll most input out
-ListOutcome most input out (Err (stop.Job offset cause)) = ListsToStop most input out offset cause
-ListOutcome most input out (Err stop.Read) = HasRisen input × ListsTaken most input out
-ListOutcome most input out (Err stop.Write) = HasRisen out × ListsPart most input out
-ListOutcome most input out (Err stop.Memory) = ListsTaken most input out
+abbrev pub ListResult : ℕ → Outside → Outside → Result (Unit {0}) ListStop → Type 0
+ListResult most input out (Ok u) = ListsAll most input out
+ListResult most input out (Err (stop.Job offset cause)) = ListsToStop most input out offset cause
+ListResult most input out (Err stop.Read) = HasRisen input × ListsTaken most input out
+ListResult most input out (Err stop.Write) = HasRisen out × ListsPart most input out
+ListResult most input out (Err stop.Memory) = ListsTaken most input out

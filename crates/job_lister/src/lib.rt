@@ -1,7 +1,7 @@
 //! The listing of a print job, written while its bytes come: a line of text for each command, with the offset of its
 //! first byte, the command's name, its numbers, and of a raster the number of its dots.
 //!
-//! `list_job` ends as `ListOutcome` says. On `Ok` the job was taken whole and all its commands are listed; where the
+//! `list_job` ends as `ListResult` says. On `Ok` the job was taken whole and all its commands are listed; where the
 //! job is refused, those before that place are. After a failed read, and where memory ran out, all commands of what was
 //! taken are listed, and more bytes could mend where it stops. After a failed write the sink has a proper prefix of the
 //! listing of some first commands of what was taken. A failed read or write comes only where the source's or sink's

@@ -1,5 +1,5 @@
 //! Listing a job.
-ghost use Rattle.job_lister.specs.Outcome.{ListOutcome};
+ghost use Rattle.job_lister.specs.Outcome.{ListResult};
 ghost use Rattle.job_lister.specs.declared.lister.ListStop.TheVariants as ListStop;
 ghost use Rattle.escp2_definitions.specs.Commands.{in_table, rows_len};
 ghost use Rattle.buffered_bytes.specs.Gathering.{Writes, gathered as gathered_of};
@@ -37,7 +37,7 @@ pub fn list_job<S: Source, K: Sink>(
     out: &mut K,
 ) -> Result<(), ListStop>
     requires { most < 2 ^ 63 }
-    ensures { ListOutcome most
+    ensures { ListResult most
         (outside_of S.left S.faults input.old input.new)
         (outside_of K.held K.faults out.old out.new) result }
 {

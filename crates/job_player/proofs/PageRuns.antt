@@ -5,7 +5,7 @@ use Rattle.std.proofs.lemmas.List.{take_all}
 use Rattle.std.proofs.lemmas.Bool.{le-ltb}
 use Rattle.dot_emulator.specs.declared.emulator.Emulator.{Emulator}
 use Rattle.dot_emulator.specs.declared.sheet.Sheet.{Sheet}
-use Rattle.dot_emulator.specs.Runs.{IsSheet, Runs, Shows}
+use Rattle.dot_emulator.specs.Runs.{Emulates, IsSheet, Runs}
 use Rattle.escp2_definitions.specs.declared.command.Command.{Command}
 use Rattle.escp2_definitions.specs.declared.stops.EmulatorFault.{EmulatorFault}
 use Rattle.escp2_definitions.specs.declared.stops.JobCause.{JobCause}
@@ -14,7 +14,7 @@ use Rattle.escp2_definitions.specs.Commands.{CommandList, Entry, ListEnd, comman
 use Rattle.escp2_definitions.specs.Commands.Heard.{One, Part, Wrong}
 use Rattle.escp2_definitions.specs.Commands.ListEnd.{Whole}
 use Rattle.escp2_definitions.specs.JobEnds.{Stopped, list_stop, stopped}
-use Rattle.escp2_definitions.specs.Machine.{Dot, Machine, Printed, Refused, Sheet as PrintedSheet, after, execute_from, first_fault}
+use Rattle.escp2_definitions.specs.Machine.{Dot, Machine, Printed, Refused, Sheet as PrintedSheet, after, execute_from, first_refusal}
 use Rattle.escp2_definitions.specs.Machine.{given, refusals, with_sheets}
 use Rattle.escp2_reader.specs.declared.reader.HeardState.{HeardState}
 use Rattle.escp2_reader.specs.declared.reader.HeardState.TheVariants as state
@@ -48,10 +48,10 @@ pub record CountsSoFar (p : Printer) (first : Machine) (dots : List Dot) (old no
   pub left : state_after p first entries ≡ m
   pub sheets : List PrintedSheet
   pub executes : ExecutesFrom p first entries m sheets
-  pub shows : Shows p now.emulator m
+  pub shows : Emulates p now.emulator m
   pub counted : HasCounted dots old now sheets
 
-pub counts_none : (p : Printer) (first : Machine) (dots : List Dot) (old : JobCounter) (bytes : List ℕ) → Shows p old.emulator first
+pub counts_none : (p : Printer) (first : Machine) (dots : List Dot) (old : JobCounter) (bytes : List ℕ) → Emulates p old.emulator first
     → CountsSoFar p first dots old old bytes bytes
 counts_none p first dots old bytes shows = record {
   done = [];
@@ -96,7 +96,7 @@ all-entries bytes done rest entries split are =
 -- it was run, and what it gave was counted
 ran : (p : Printer) (first : Machine) (dots : List Dot) (old now next : JobCounter) (bytes rest : List ℕ) (used : ℕ)
     (command : Command) (rows : List ℕ) (so_far : CountsSoFar p first dots old now bytes rest) → IsWhole (take used rest) command rows
-    → first_fault (refusals p so_far.m command rows) ≡ None → Shows p next.emulator (after p so_far.m command rows)
+    → first_refusal (refusals p so_far.m command rows) ≡ None → Emulates p next.emulator (after p so_far.m command rows)
     → HasCounted dots old next (so_far.sheets ++ given p so_far.m command)
     → CountsSoFar p first dots old next bytes (drop used rest)
 ran p first dots old now next bytes rest used command rows so_far whole accepted shows counted =
@@ -150,7 +150,7 @@ pub record IsPageSheet (dots : List Dot) (before : List PrintedSheet) (this : Pr
 pub page_sheet : (p : Printer) (first : Machine) (dots : List Dot) (old now : JobCounter) (bytes rest : List ℕ) (used : ℕ)
     (command : Command) (rows : List ℕ) (this : PrintedSheet) (so_far : CountsSoFar p first dots old now bytes rest)
     → IsWhole (take used rest) command rows → GivesSheet p bytes dots → first.dots ≡ []
-    → first_fault (refusals p so_far.m command rows) ≡ None → given p so_far.m command ≡ this ∷ []
+    → first_refusal (refusals p so_far.m command rows) ≡ None → given p so_far.m command ≡ this ∷ []
     → IsPageSheet dots so_far.sheets this
 page_sheet p first dots old now bytes rest used command rows this so_far whole gives blank accepted gave =
     let entry : Entry = next_entry p first dots old now bytes rest so_far command rows in
@@ -184,7 +184,7 @@ counts_sheet p first dots old now next bytes rest used command rows ran_on sheet
     page_sheet p first dots old now bytes rest used command rows gave.0 so_far whole gives blank runs.0 gave.1 in
     let H : List PrintedSheet → Type 0 = HasCounted dots old next in
     let N : List PrintedSheet → Type 0 = HasCounted dots old now in
-    let S : Emulator → Type 0 = λ e. Shows p e (after p so_far.m command rows) in
+    let S : Emulator → Type 0 = λ e. Emulates p e (after p so_far.m command rows) in
     let none = subst N is.first so_far.counted in
     let all : so_far.sheets ++ given p so_far.m command ≡ gave.0 ∷ [] =
     ap (λ more. so_far.sheets ++ more) gave.1 ∙ ap (λ before. before ++ gave.0 ∷ []) is.first in
@@ -200,7 +200,7 @@ pub room_left : (dots : List Dot) (old now : JobCounter) (before : List PrintedS
 room_left dots old now before counted none = let H : List PrintedSheet → Type 0 = HasCounted dots old now in (subst H none counted).0
 
 -- the steps of a printer are no less than 1
-pub some_steps : (p : Printer) (e : Emulator) (m : Machine) → Shows p e m → (1 ≤ column_step p) × (1 ≤ row_step p)
+pub some_steps : (p : Printer) (e : Emulator) (m : Machine) → Emulates p e m → (1 ≤ column_step p) × (1 ≤ row_step p)
 some_steps p e m shows =
     let some : ℕ → Type 0 = λ n. 1 ≤ n in
     let row : 1 ≤ e.steps.row = omega (arith, e.steps.row_least) in
@@ -278,7 +278,7 @@ never_unheard p first dots old now bytes rest used (state.Fault offset cause) be
 pub never_refused : (p : Printer) (first : Machine) (dots : List Dot) (old now : JobCounter) (bytes rest : List ℕ) (used : ℕ)
     (command : Command) (rows : List ℕ) (fault : EmulatorFault) (so_far : CountsSoFar p first dots old now bytes rest)
     → IsWhole (take used rest) command rows → GivesSheet p bytes dots → first.dots ≡ []
-    → first_fault (refusals p so_far.m command rows) ≡ Some fault → ⊥
+    → first_refusal (refusals p so_far.m command rows) ≡ Some fault → ⊥
 never_refused p first dots old now bytes rest used command rows fault so_far whole gives blank some =
     let entry : Entry = next_entry p first dots old now bytes rest so_far command rows in
     let done : List ℕ = so_far.done ++ take used rest in

@@ -9,7 +9,7 @@ use Rattle.dot_emulator.specs.declared.emulator.EmulatorStop.{EmulatorStop}
 use Rattle.dot_emulator.specs.declared.emulator.EmulatorStop.TheVariants as emulator
 use Rattle.dot_emulator.specs.declared.emulator.Emulator.{Emulator}
 use Rattle.dot_emulator.specs.declared.sheet.Sheet.{Sheet}
-use Rattle.dot_emulator.specs.Runs.{IsSheet, Runs, Shows}
+use Rattle.dot_emulator.specs.Runs.{Emulates, IsSheet, Runs}
 use Rattle.escp2_definitions.specs.declared.stops.EmulatorFault.{EmulatorFault}
 use Rattle.escp2_definitions.specs.declared.stops.JobStop.TheVariants as job
 use Rattle.escp2_definitions.specs.Commands.{Entry}
@@ -20,12 +20,12 @@ use Rattle.job_feed.specs.declared.feed.FeedStop.TheVariants as feed_is
 use Rattle.job_feed.specs.declared.feed.JobFeed.{JobFeed}
 use Rattle.job_feed.specs.declared.feed.PlacedCommand.{PlacedCommand}
 use Rattle.job_feed.specs.Feeding.{HasEnded, IsStopped, TakesCommand, at_of, heard_of, most_of, text_of, unread_of}
-use Rattle.job_feed.specs.Jobs.{MoreMayMend, TakesCommands}
+use Rattle.job_feed.specs.Jobs.{JobMayGoOn, TakesCommands}
 use Rattle.job_feed.proofs.Jobs.{GaveCommands, commands_none, ends_whole, entry_of, gave_first, gave_more, gave_none, job_ended}
 use Rattle.job_feed.proofs.Jobs.{job_refused, rose_within, takes_all, takes_gave}
 use Rattle.job_player.specs.declared.player.PlayStop.{PlayStop}
 use Rattle.job_player.specs.declared.player.PlayStop.TheVariants as stop
-use Rattle.job_player.specs.Outcome.{PlayOutcome, PlaysAll, PlaysTaken, TakesSheets, counted, sheets_of}
+use Rattle.job_player.specs.Outcome.{PlayResult, PlaysAll, PlaysTaken, TakesSheets, sheet_number, sheets_of}
 use Rattle.job_player.specs.Pictures.{images, sheet_images, table_images}
 use Rattle.job_player.specs.Stops.{emulator_stop, feed_stop}
 use Rattle.job_player.proofs.Images.{images_are}
@@ -41,17 +41,17 @@ pub record RunsSoFar (p : Printer)
   pub gave : GaveCommands feed before text entries
   pub m : Machine
   pub executes : Executes p entries m sheets
-  pub shows : Shows p e m
+  pub shows : Emulates p e m
 
 -- And their images were written.
 pub record PlaysSoFar (p : Printer) (e : Emulator) (feed : JobFeed) (before text held now : Option (List ℕ)) (number : ℕ) : Type 0 where
   pub sheets : List PrintedSheet
   pub runs : RunsSoFar p e feed before text sheets
   pub writes : Appends held now (images p sheets)
-  pub number_is : number ≡ counted (length sheets)
+  pub number_is : number ≡ sheet_number (length sheets)
 
 pub plays_none : (p : Printer) (e : Emulator) (feed : JobFeed) (left held : Option (List ℕ))
-    → at_of feed ≡ 0 → feed.unread ≡ [] → Shows p e start
+    → at_of feed ≡ 0 → feed.unread ≡ [] → Emulates p e start
     → PlaysSoFar p e feed left (text_of feed left) held held 0
 plays_none p e feed left held at unread shows = record {
   sheets = [];
@@ -99,14 +99,14 @@ pub record HasSheet (p : Printer) (e : Emulator)
   pub printed : PrintedSheet
   pub runs : RunsSoFar p e feed before text (sheets ++ printed ∷ [])
   pub writes : Appends held now (images p sheets)
-  pub number_is : number ≡ counted (length sheets)
+  pub number_is : number ≡ sheet_number (length sheets)
   pub is : IsSheet p printed sheet
 
 pub gives_sheet : {p : Printer} {e e' : Emulator} {old new : JobFeed}
     {before text : Option (List ℕ)} (left : Option (List ℕ)) {held now : Option (List ℕ)} {number : ℕ} (placed : PlacedCommand)
     (rows : List ℕ) (some : Option Sheet) (sheet : Sheet)
     (so_far : PlaysSoFar p e old before text held now number) → TakesCommand old new text (text_of new left) placed
-    → ((m : Machine) → Shows p e m → Runs p m placed.command rows e e' (Ok some)) → rows ≡ heard_of new → some ≡ Some sheet
+    → ((m : Machine) → Emulates p e m → Runs p m placed.command rows e e' (Ok some)) → rows ≡ heard_of new → some ≡ Some sheet
     → HasSheet p e' new before (text_of new left) held now number sheet
 gives_sheet {p} {e} {e'} {old} {new} {before} {text} left placed rows some sheet so_far takes runs_on heard is =
     let runs = rw is at (rw heard at (runs_on so_far.runs.m so_far.runs.shows)) in
@@ -122,7 +122,7 @@ gives_sheet {p} {e} {e'} {old} {new} {before} {text} left placed rows some sheet
       is = gives.2;
     }
 
-counts_on : (n number : ℕ) → number ≡ counted n → min (number + 1) (2 ^ 32 - 1) ≡ counted (n + 1)
+counts_on : (n number : ℕ) → number ≡ sheet_number n → min (number + 1) (2 ^ 32 - 1) ≡ sheet_number (n + 1)
 counts_on n number is = omega (arith, is)
 
 pub sheet_written : {p : Printer} {e : Emulator} {feed : JobFeed} {before text held now now' : Option (List ℕ)}
@@ -140,12 +140,12 @@ sheet_written {p} {held} {now} {now'} {number} sheet has written more_is =
           (Appends-trans held now now' (images p has.sheets)
           (sheet_images p has.printed) has.writes (subst P (images_are p has.printed sheet has.is) written));
       number_is = more_is ∙ counts_on (length has.sheets) number has.number_is
-          ∙ ap counted (sym (length-append has.sheets (has.printed ∷ [])));
+          ∙ ap sheet_number (sym (length-append has.sheets (has.printed ∷ [])));
     }
 
 -- its planes were handed back
 pub kept_back : {p : Printer} {e e' : Emulator} {feed : JobFeed} {before text held now : Option (List ℕ)} {number : ℕ}
-    → PlaysSoFar p e feed before text held now number → ((m : Machine) → Shows p e m → Shows p e' m)
+    → PlaysSoFar p e feed before text held now number → ((m : Machine) → Emulates p e m → Emulates p e' m)
     → PlaysSoFar p e' feed before text held now number
 kept_back so_far shows = record {
   sheets = so_far.sheets;
@@ -181,7 +181,7 @@ pub sheet_unwritten : {p : Printer} (most : ℕ) {e : Emulator}
     → HasSheet p e feed before (text_of feed left) held now number sheet
     → AppendsPart now now' (table_images sheet.columns sheet.rows sheet.planes) → more ≡ min (number + 1) (2 ^ 32 - 1)
     → most_of feed ≡ most → g0 ≤ g1 → Rose g1 g2
-    → PlayOutcome p most (record { before = before; now = left; faults_before = f0; faults_now = f1 })
+    → PlayResult p most (record { before = before; now = left; faults_before = f0; faults_now = f1 })
     (record { before = held; now = now'; faults_before = g0; faults_now = g2 }) (Err (stop.Write more))
 sheet_unwritten {p} most feed {before} {left} {now} {now'} {number} {g0} {g1} {g2} sheet has part more_is most_is later rose =
     let P : List ℕ → Type 0 = AppendsPart now now' in
@@ -227,7 +227,7 @@ pub plays_to_stop : (p : Printer) (most : ℕ) (e : Emulator)
     (feed new : JobFeed) (before text left held now : Option (List ℕ)) (number f0 f1 f2 g0 g1 : ℕ) (why : FeedStop)
     → PlaysSoFar p e feed before text held now number → IsStopped feed text (text_of new left) f1 f2 why
     → (why ≡ feed_is.Read → unread_of new ≡ []) → f0 ≤ f1 → most_of feed ≡ most
-    → PlayOutcome p most (record { before = before; now = left; faults_before = f0; faults_now = f2 })
+    → PlayResult p most (record { before = before; now = left; faults_before = f0; faults_now = f2 })
     (record { before = held; now = now; faults_before = g0; faults_now = g1 }) (Err (feed_stop why))
 plays_to_stop p most e feed new before text left held now number f0 f1 f2 g0 g1 (feed_is.Job offset cause) so_far stopped used later most_is =
     let P : ℕ → Type 0 = λ n. IfSome before (λ bytes. (sheets_of p n bytes ≡ so_far.sheets)
@@ -245,7 +245,7 @@ plays_to_stop p most e feed new before text left held now number f0 f1 f2 g0 g1 
     (job_end takes.bytes (most_of feed) None) so_far.runs.executes (record { are = takes.are; stop_is = refl }) in
     let P : ℕ → Type 0 = λ n. PlaysTaken p n (record { before = before; now = left; faults_before = f0; faults_now = f2 })
     (record { before = held; now = now; faults_before = g0; faults_now = g1 }) in
-    let Q : Option Stopped → Type 0 = MoreMayMend in
+    let Q : Option Stopped → Type 0 = JobMayGoOn in
     let R : List PrintedSheet → Type 0 = λ sheets. Appends held now (images p sheets) in (
       rose_within f0 f1 f2 f2 later failed.rose (omega arith),
       subst P most_is (record {
@@ -261,7 +261,7 @@ pub plays_untaken : (p : Printer) (most : ℕ) (input out : Outside) → Consume
     → PlaysTaken p most input out
 plays_untaken p most input out taken appends =
     let stops = stops_as_bytes p most [] [] start [] None (executes_none p start) (ends_whole [] most [] commands_none (omega arith)) in
-    let Q : Option Stopped → Type 0 = MoreMayMend in
+    let Q : Option Stopped → Type 0 = JobMayGoOn in
     let R : List PrintedSheet → Type 0 = λ sheets. Appends out.before out.now (images p sheets) in record {
       bytes = [];
       taken = taken;
@@ -274,7 +274,7 @@ pub plays_to_refusal : (p : Printer) (most : ℕ) (e e' : Emulator) (old new : J
     (before text left held now : Option (List ℕ)) (number f0 f1 g0 g1 : ℕ) (placed : PlacedCommand) (fault : EmulatorFault)
     (so_far : PlaysSoFar p e old before text held now number) → TakesCommand old new text (text_of new left) placed
     → Runs p so_far.runs.m placed.command (heard_of new) e e' (Err (emulator.Refused fault)) → most_of new ≡ most
-    → PlayOutcome p most (record { before = before; now = left; faults_before = f0; faults_now = f1 })
+    → PlayResult p most (record { before = before; now = left; faults_before = f0; faults_now = f1 })
     (record { before = held; now = now; faults_before = g0; faults_now = g1 })
     (Err (stop.Job placed.at (job.Machine fault)))
 plays_to_refusal p most e e' old new before text left held now number f0 f1 g0 g1 placed fault so_far takes runs most_is =
@@ -294,7 +294,7 @@ plays_to_refusal p most e e' old new before text left held now number f0 f1 g0 g
 pub plays_without_room : (p : Printer) (most : ℕ) (e : Emulator) (old new : JobFeed)
     (before text left held now : Option (List ℕ)) (number f0 f1 g0 g1 : ℕ) (placed : PlacedCommand)
     → PlaysSoFar p e old before text held now number → TakesCommand old new text (text_of new left) placed → most_of old ≡ most
-    → PlayOutcome p most (record { before = before; now = left; faults_before = f0; faults_now = f1 })
+    → PlayResult p most (record { before = before; now = left; faults_before = f0; faults_now = f1 })
     (record { before = held; now = now; faults_before = g0; faults_now = g1 }) (Err stop.Memory)
 plays_without_room p most e old new before text left held now number f0 f1 g0 g1 placed so_far takes most_is =
     let Q : ℕ → Type 0 = λ n. TakesSheets p n before left so_far.sheets in
@@ -307,7 +307,7 @@ plays_without_room p most e old new before text left held now number f0 f1 g0 g1
 
 -- memory runs out at the beginning
 pub plays_nothing : (p : Printer) (most : ℕ) {left held : Option (List ℕ)} {f0 f1 g0 g1 : ℕ}
-    → PlayOutcome p most (record { before = left; now = left; faults_before = f0; faults_now = f1 })
+    → PlayResult p most (record { before = left; now = left; faults_before = f0; faults_now = f1 })
     (record { before = held; now = held; faults_before = g0; faults_now = g1 }) (Err stop.Memory)
 plays_nothing p most {left} {held} = record {
   sheets = [];
@@ -321,13 +321,13 @@ pub plays_to_emulator_stop : {p : Printer} (most : ℕ) {e : Emulator} (e' : Emu
     (so_far : PlaysSoFar p e old input.before text out.before out.now number)
     → TakesCommand old new text (text_of new input.now) placed
     → Runs p so_far.runs.m placed.command (heard_of new) e e' (Err why) → most_of old ≡ most
-    → answer ≡ emulator_stop placed.at why → PlayOutcome p most input out (Err answer)
+    → answer ≡ emulator_stop placed.at why → PlayResult p most input out (Err answer)
 plays_to_emulator_stop {p} most {e} e' old new {text} {number} input out placed why answer so_far takes runs most_is is =
-    let P : PlayStop → Type 0 = λ stop. PlayOutcome p most input out (Err stop) in
+    let P : PlayStop → Type 0 = λ stop. PlayResult p most input out (Err stop) in
     subst P (sym is) (by_stop why runs)
   where
     by_stop : (why : EmulatorStop) → Runs p so_far.runs.m placed.command (heard_of new) e e' (Err why)
-        → PlayOutcome p most input out (Err (emulator_stop placed.at why))
+        → PlayResult p most input out (Err (emulator_stop placed.at why))
     by_stop (emulator.Refused fault) runs = plays_to_refusal p most e e' old new input.before text input.now out.before out.now number
         input.faults_before input.faults_now out.faults_before out.faults_now placed fault so_far takes runs (takes.most ∙ most_is)
     by_stop emulator.Memory runs = plays_without_room p most e old new input.before text input.now out.before out.now number
@@ -340,9 +340,9 @@ pub plays_to_feed_stop : {p : Printer} (most : ℕ) {e : Emulator} (feed new : J
     → IsStopped feed text (text_of new input.now) faults input.faults_now why
     → (why ≡ feed_is.Read → unread_of new ≡ []) → input.faults_before ≤ faults
     → most_of feed ≡ most → answer ≡ feed_stop why
-    → PlayOutcome p most input out (Err answer)
+    → PlayResult p most input out (Err answer)
 plays_to_feed_stop {p} most {e} feed new {text} {number} input out faults why answer so_far stopped used later most_is is =
-    let P : PlayStop → Type 0 = λ stop. PlayOutcome p most input out (Err stop) in
+    let P : PlayStop → Type 0 = λ stop. PlayResult p most input out (Err stop) in
     subst P (sym is) (plays_to_stop p most e feed new input.before text input.now out.before out.now number
     input.faults_before faults input.faults_now out.faults_before out.faults_now why so_far stopped used later most_is)
 

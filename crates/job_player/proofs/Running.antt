@@ -4,7 +4,7 @@ use Rattle.escp2_definitions.specs.declared.stops.EmulatorFault.{EmulatorFault}
 use Rattle.escp2_definitions.specs.declared.stops.JobStop.TheVariants as stop
 use Rattle.escp2_definitions.specs.Commands.{Entry, commands}
 use Rattle.escp2_definitions.specs.JobEnds.{Stopped, first_stop, job_end, list_stop, stopped}
-use Rattle.escp2_definitions.specs.Machine.{Machine, Printed, Sheet, after, execute, execute_from, first_fault}
+use Rattle.escp2_definitions.specs.Machine.{Machine, Printed, Sheet, after, execute, execute_from, first_refusal}
 use Rattle.escp2_definitions.specs.Machine.{given, refusals, start, with_sheets}
 use Rattle.job_feed.specs.Jobs.{Ends}
 use Rattle.printer_definitions.specs.Printer.{Printer}
@@ -21,7 +21,7 @@ pub executes_none : (p : Printer) (first : Machine) → ExecutesFrom p first [] 
 executes_none p first = record { is = λ rest. refl }
 
 -- a command that is not refused
-accepted : (p : Printer) (m : Machine) (entry : Entry) (rest : List Entry) → first_fault (refusals p m entry.command entry.rows) ≡ None
+accepted : (p : Printer) (m : Machine) (entry : Entry) (rest : List Entry) → first_refusal (refusals p m entry.command entry.rows) ≡ None
     → execute_from p m (entry ∷ rest) ≡ with_sheets (given p m entry.command) (execute_from p (after p m entry.command entry.rows) rest)
 unfolding execute_from
 accepted p m entry rest none = ap (λ o. elim o [
@@ -31,7 +31,7 @@ accepted p m entry rest none = ap (λ o. elim o [
 
 -- a command that is refused
 pub refused : (p : Printer) (m : Machine) (entry : Entry) (rest : List Entry) (fault : EmulatorFault)
-    → first_fault (refusals p m entry.command entry.rows) ≡ Some fault
+    → first_refusal (refusals p m entry.command entry.rows) ≡ Some fault
     → execute_from p m (entry ∷ rest) ≡ record { sheets = []; refused = Some (record { at = entry.at; fault = fault }) }
 unfolding execute_from
 refused p m entry rest fault some = ap (λ o. elim o [
@@ -41,7 +41,7 @@ refused p m entry rest fault some = ap (λ o. elim o [
 
 pub executes_more : (p : Printer) (first : Machine) (entries : List Entry) (entry : Entry) (m : Machine) (sheets : List Sheet)
     → ExecutesFrom p first entries m sheets
-    → first_fault (refusals p m entry.command entry.rows) ≡ None
+    → first_refusal (refusals p m entry.command entry.rows) ≡ None
     → ExecutesFrom p first (entries ++ entry ∷ []) (after p m entry.command entry.rows) (sheets ++ given p m entry.command)
 executes_more p first entries entry m sheets so_far none = record {
   is = λ rest.
@@ -79,7 +79,7 @@ stops_as_bytes p most bytes entries m sheets why so_far ends =
 -- a job of which a command is refused stops there, whatever follows
 pub stops_at_refusal : (p : Printer) (most : ℕ) (bytes : List ℕ)
     (entries others : List Entry) (entry : Entry) (m : Machine) (sheets : List Sheet) (fault : EmulatorFault)
-    → Executes p entries m sheets → first_fault (refusals p m entry.command entry.rows) ≡ Some fault
+    → Executes p entries m sheets → first_refusal (refusals p m entry.command entry.rows) ≡ Some fault
     → (commands (take most bytes)).entries ≡ (entries ++ entry ∷ []) ++ others
     → ((execute p (commands (take most bytes)).entries).sheets ≡ sheets)
     × (job_end bytes most (Some p) ≡ stopped entry.at (stop.Machine fault))

@@ -1,6 +1,6 @@
 -- A counter of sheets between the jobs of pages, and what the job of a page adds to its counts.
 use Rattle.std.specs.Prelude.{◌≡◌, ℕ, ◌+◌, List, []}
-use Rattle.dot_emulator.specs.Runs.{Shows}
+use Rattle.dot_emulator.specs.Runs.{Emulates}
 use Rattle.escp2_definitions.specs.Machine.{Dot, Machine}
 use Rattle.ink_meter.specs.Accounts.{together}
 use Rattle.ink_meter.specs.Counts.{ink_dots}
@@ -21,7 +21,7 @@ counts_of counter = counter.dots
 -- Its printer has no dot on the sheet, so that the job of a page can follow.
 pub record IsBetweenPages (p : Printer) (counter : JobCounter) : Type 0 where
   pub machine : Machine
-  pub shows : Shows p counter.emulator machine
+  pub shows : Emulates p counter.emulator machine
   pub blank : machine.dots ≡ []
 
 -- The bytes are the job of a page, for the printer of the counter.

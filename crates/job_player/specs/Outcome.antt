@@ -5,7 +5,7 @@ use Rattle.escp2_definitions.specs.declared.stops.JobStop.{JobStop}
 use Rattle.escp2_definitions.specs.Commands.{commands}
 use Rattle.escp2_definitions.specs.JobEnds.{job_end, stopped}
 use Rattle.escp2_definitions.specs.Machine.{Sheet, execute}
-use Rattle.job_feed.specs.Jobs.{MoreMayMend}
+use Rattle.job_feed.specs.Jobs.{JobMayGoOn}
 use Rattle.job_player.specs.declared.player.PlayStop.{PlayStop}
 use Rattle.job_player.specs.declared.player.PlayStop.TheVariants as stop
 use Rattle.job_player.specs.Pictures.{images, sheet_images}
@@ -48,27 +48,27 @@ pub record PlaysSome (p : Printer) (most : ℕ) (input out : Outside) : Type 0 w
 pub record PlaysTaken (p : Printer) (most : ℕ) (input out : Outside) : Type 0 where
   pub bytes : List ℕ
   pub taken : Consumes input.before input.now bytes
-  pub end : MoreMayMend (job_end bytes most (Some p))
+  pub end : JobMayGoOn (job_end bytes most (Some p))
   pub writes : Appends out.before out.now (images p (sheets_of p most bytes))
 
 -- the number of a sheet, up to the last value of 32 bits
-abbrev pub counted : ℕ → ℕ
-counted n = min n (2 ^ 32 - 1)
+abbrev pub sheet_number : ℕ → ℕ
+sheet_number n = min n (2 ^ 32 - 1)
 
 -- The images of the sheets before this one were written, and a proper prefix of its own.
 pub record StopsInSheet (p : Printer) (most : ℕ) (input out : Outside) (number : ℕ) : Type 0 where
   pub sheets : List Sheet
   pub sheet : Sheet
   pub takes : TakesSheets p most input.before input.now (sheets ++ sheet ∷ [])
-  pub number_is : number ≡ counted (length sheets + 1)
+  pub number_is : number ≡ sheet_number (length sheets + 1)
   pub between : Option (List ℕ)
   pub whole : Appends out.before between (images p sheets)
   pub part : AppendsPart between out.now (sheet_images p sheet)
 
 -- The outcome of playing a job of at most `most` bytes on a printer.
-abbrev pub PlayOutcome : Printer → ℕ → Outside → Outside → Result (Unit {0}) PlayStop → Type 0
-PlayOutcome p most input out (Ok u) = PlaysAll p most input out
-PlayOutcome p most input out (Err (stop.Job offset cause)) = PlaysToStop p most input out offset cause
-PlayOutcome p most input out (Err stop.Read) = HasRisen input × PlaysTaken p most input out
-PlayOutcome p most input out (Err (stop.Write number)) = HasRisen out × StopsInSheet p most input out number
-PlayOutcome p most input out (Err stop.Memory) = PlaysSome p most input out
+abbrev pub PlayResult : Printer → ℕ → Outside → Outside → Result (Unit {0}) PlayStop → Type 0
+PlayResult p most input out (Ok u) = PlaysAll p most input out
+PlayResult p most input out (Err (stop.Job offset cause)) = PlaysToStop p most input out offset cause
+PlayResult p most input out (Err stop.Read) = HasRisen input × PlaysTaken p most input out
+PlayResult p most input out (Err (stop.Write number)) = HasRisen out × StopsInSheet p most input out number
+PlayResult p most input out (Err stop.Memory) = PlaysSome p most input out

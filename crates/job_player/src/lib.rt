@@ -1,7 +1,7 @@
 //! The sheets of a print job as images, each written when it is ejected; and the sheets of pages, counted with their
 //! dots.
 //!
-//! `play_job`, for a profile that passes its checks, ends as `PlayOutcome` says. On `Ok` the whole input was a job that
+//! `play_job`, for a profile that passes its checks, ends as `PlayResult` says. On `Ok` the whole input was a job that
 //! the printer takes, and the images of its sheets were written; where the job is refused, those of the sheets before
 //! that place were. After a failed read the images of all sheets that what was taken ejects were written, and more
 //! bytes could mend where it stops; after a failed write those of the sheets before the named one, and a proper prefix

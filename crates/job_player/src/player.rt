@@ -1,5 +1,5 @@
 //! Playing a job.
-ghost use Rattle.job_player.specs.Outcome.{PlayOutcome};
+ghost use Rattle.job_player.specs.Outcome.{PlayResult};
 ghost use Rattle.job_player.specs.Stops.{emulator_stop};
 ghost use Rattle.job_player.specs.declared.player.PlayStop.TheVariants as PlayStop;
 ghost use Rattle.buffered_bytes.specs.Outside.{outside_of};
@@ -38,7 +38,7 @@ pub fn play_job<S: Source, K: Sink>(
 ) -> Result<(), PlayStop>
     requires checked { IsOk (check profile.now) }
     requires most { most < 2 ^ 63 }
-    ensures { PlayOutcome profile.now most
+    ensures { PlayResult profile.now most
         (outside_of S.left S.faults input.old input.new)
         (outside_of K.held K.faults out.old out.new) result }
 {

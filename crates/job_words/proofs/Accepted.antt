@@ -44,8 +44,8 @@ pub record IsAccepted (command : CommandRow) (words : List (List ℕ)) (job : Jo
   pub none_refused : refused (faults_on command.keys) words [] ≡ []
   pub job_is : job_of command words ≡ job
 
-row_of : (name : List ℕ) (command : CommandRow) → command_named name ≡ Some command → command_row command.verb ≡ command
-row_of name command found =
+named_row : (name : List ℕ) (command : CommandRow) → command_named name ≡ Some command → command_row command.verb ≡ command
+named_row name command found =
     found_has (λ (row : CommandRow). command_row row.verb ≡ row) (λ (row : CommandRow). is_text name row.name) command_table command
     (refl, (refl, (refl, (refl, (refl, tt))))) found
 
@@ -57,7 +57,7 @@ words_accepted (name ∷ words) job means = by_command (command_named name) refl
   by_faults : (command : CommandRow) (faults : List UsageFault) → command_named name ≡ Some command → refused (faults_on command.keys) words [] ≡ faults
       → job_unless faults (job_of command words) ≡ Ok job → (command : CommandRow) × IsAccepted command words job
   by_faults command [] found none means =
-      (command, record { row = row_of name command found; none_refused = none; job_is = cc })
+      (command, record { row = named_row name command found; none_refused = none; job_is = cc })
   by_faults command (fault ∷ faults) found none means = absurd cc
 
   by_command : (o : Option CommandRow) → command_named name ≡ o → command_meaning words o ≡ Ok job

@@ -2,7 +2,7 @@
 use Rattle.std.specs.Prelude.{◌≡◌, ℕ, ◌+◌, Bool, true, false, List, map, length}
 use Rattle.base_definitions.specs.Counting.{count_from}
 use Rattle.dead_nozzles.specs.Dead.{has}
-use Rattle.dead_nozzles.specs.Plans.{row_of}
+use Rattle.dead_nozzles.specs.Plans.{shot_row}
 use Rattle.dead_nozzles.specs.Strokes.{Head, Shot, HeadStroke, all_strokes, missing}
 use Rattle.page_definitions.specs.Dots.{Halftone}
 use Rattle.page_definitions.specs.PageBytes.{fired_row, page_coding}
@@ -17,7 +17,7 @@ worn_head dead p height = record { nozzles = p.nozzles; pitch = p.pitch; height 
 
 -- the rows that an ink's nozzles fire by these shots, one for each nozzle; blank where a nozzle fires none
 abbrev pub shot_rows : Printer → Halftone → List Shot → Ink → List (List Bool)
-shot_rows p h shots ink = map (λ i. fired_row h ink (row_of shots i)) (count_from 0 p.nozzles)
+shot_rows p h shots ink = map (λ i. fired_row h ink (shot_row shots i)) (count_from 0 p.nozzles)
 
 -- a stroke, with the rows that its nozzles fire
 abbrev pub healed_stroke : Printer → Halftone → HeadStroke → Stroke

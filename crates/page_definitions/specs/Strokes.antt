@@ -118,9 +118,9 @@ fired p strokes = flat_map (stroke_fired p strokes.above) strokes.list
 -- ---- which strokes print a halftone
 
 -- each stroke begins no higher than the one before it, and the first no higher than this row
-abbrev pub IsRising : ℕ → List Stroke → Type 0
-IsRising last [] = Unit {0}
-IsRising last (stroke ∷ strokes) = (last ≤ stroke.start) × IsRising stroke.start strokes
+abbrev pub GoDown : ℕ → List Stroke → Type 0
+GoDown last [] = Unit {0}
+GoDown last (stroke ∷ strokes) = (last ≤ stroke.start) × GoDown stroke.start strokes
 
 -- one row for each nozzle, each as wide as the window
 pub record IsWhole (nozzles width : ℕ) (rows : List (List Bool)) : Type 0 where
@@ -136,7 +136,7 @@ pub record IsOnWindow (pitch above height start : ℕ) (rows : List (List Bool))
 -- together they fire each dot of the halftone once and nothing else.
 pub record Fires (p : Printer) (h : Halftone) (strokes : Strokes) : Type 0 where
   pub room : strokes.above ≤ p.top
-  pub rising : IsRising 0 strokes.list
+  pub rising : GoDown 0 strokes.list
   pub whole : AllByRecursion (λ stroke. (ink : Ink) → IsWhole p.nozzles h.width (stroke.rows ink)) strokes.list
   pub on_window : AllByRecursion (λ stroke. (ink : Ink)
       → IsOnWindow p.pitch strokes.above h.height stroke.start (stroke.rows ink)) strokes.list

@@ -10,7 +10,7 @@ use Rattle.escp2_definitions.specs.declared.command.Command.TheVariants as c
 use Rattle.escp2_definitions.specs.declared.stops.EmulatorFault.{EmulatorFault}
 use Rattle.escp2_definitions.specs.declared.stops.EmulatorFault.TheVariants.{NotGraphics, NoUnit, NoMargins, Density, Rows, OffGrid}
 use Rattle.escp2_definitions.specs.declared.stops.EmulatorFault.TheVariants.{OffSheet, Overprint}
-use Rattle.escp2_definitions.specs.Machine.{Dot, Machine, after, first_fault, is_off_grid, is_off_sheet, is_other_density}
+use Rattle.escp2_definitions.specs.Machine.{Dot, Machine, after, first_refusal, is_off_grid, is_off_sheet, is_other_density}
 use Rattle.escp2_definitions.specs.Machine.{overprints, raster_dots, refusals, refuse, rows_dots}
 use Rattle.base_definitions.specs.Packed.{packed}
 use Rattle.page_definitions.specs.Strokes.{IsOnWindow, IsWhole, Spoken, Stroke, has_dot, ink_commands, raster_header, rows_fired, say}
@@ -62,7 +62,7 @@ zero-over n some = record { rest = omega arith; over = omega arith }
 -- the raster is not refused
 raster-accepted : (w : Layout) (stroke : Stroke) (ink : Ink) (columns : ℕ) (dots : List Dot)
     → IsLayout w → Lies w stroke → Once (dots ++ ink_fired w stroke ink)
-    → first_fault (refusals w.printer
+    → first_refusal (refusals w.printer
     (paused w stroke.start 0 columns ink dots) (c.Raster (header_of w)) (flat_map packed (stroke.rows ink))) ≡ None
 raster-accepted w stroke ink columns dots is lies once =
     let s : Machine = paused w stroke.start 0 columns ink dots in
@@ -92,7 +92,7 @@ raster-accepted w stroke ink columns dots is lies once =
     let sheet : is_off_sheet w.printer s (header_of w) fired ≡ false = neither _ _ columns_fit rows_fit in
     let over : overprints dots fired ≡ false = ap (overprints dots) same ∙ not_twice dots wanted once in
     let faults : Bool → Bool → Bool → Bool → Bool → Option EmulatorFault = λ density nozzles grid sheet over.
-    first_fault (refuse false NotGraphics ∷ refuse false NoUnit ∷ refuse false NoMargins ∷ refuse density Density ∷ refuse nozzles Rows
+    first_refusal (refuse false NotGraphics ∷ refuse false NoUnit ∷ refuse false NoMargins ∷ refuse density Density ∷ refuse nozzles Rows
     ∷ refuse grid OffGrid ∷ refuse sheet OffSheet ∷ refuse over Overprint ∷ []) in
     ap (λ b. faults b (not (w.printer.nozzles == w.printer.nozzles))
     (is_off_grid w.printer s) (is_off_sheet w.printer s (header_of w) fired) (overprints dots fired)) density

@@ -12,7 +12,7 @@ use Rattle.printer_definitions.specs.Printer.{Printer, head_rows, row_units}
 use Rattle.base_definitions.specs.Counting.{count_from}
 use Rattle.base_definitions.specs.Packed.{at}
 use Rattle.dead_nozzles.specs.Dead.{checked, has}
-use Rattle.dead_nozzles.specs.Plans.{row_of}
+use Rattle.dead_nozzles.specs.Plans.{shot_row}
 use Rattle.dead_nozzles.specs.Strokes.{Head, IsHead, Shot, StartsRise, HeadStroke, all_strokes, firings_of, row_under, shot, stroke_at}
 use Rattle.dead_nozzles.proofs.Firing.{Over, over}
 use Rattle.dead_nozzles.proofs.MakeUp.{each-row}
@@ -27,7 +27,7 @@ use Rattle.page_definitions.specs.Dots.{Halftone}
 use Rattle.page_definitions.specs.Healed.{IsSpared, healed, healed_bytes, healed_passes, healed_stroke, shot_rows, worn_head}
 use Rattle.page_definitions.specs.PageBytes.{fired_row, page_coding}
 use Rattle.page_definitions.specs.RasterRows.{RasterRows, StrokeRows}
-use Rattle.page_definitions.specs.Strokes.{Fires, IsOnWindow, IsRising, IsWhole, Stroke}
+use Rattle.page_definitions.specs.Strokes.{Fires, GoDown, IsOnWindow, IsWhole, Stroke}
 use Rattle.page_laws.specs.Sized.{Sized}
 use Rattle.page_laws.proofs.Counts.{count-append, count-cons, each-of, if-none, if-plus}
 use Rattle.page_laws.proofs.Headline.{page-coded}
@@ -46,7 +46,7 @@ of_row y s = s.row == y
 
 -- the row that a nozzle fires by these shots
 abbrev row_by : Halftone → List Shot → Ink → ℕ → List Bool
-row_by h shots ink i = fired_row h ink (row_of shots i)
+row_by h shots ink i = fired_row h ink (shot_row shots i)
 
 -- one nozzle of a stroke fires a dot of its row, once
 nozzle-hits : (dead : List ℕ) (p : Printer) (h : Halftone) (wanted : ℕ → Bool) (ink : Ink) (y x start i : ℕ) → x < h.width
@@ -128,7 +128,7 @@ at-or-below start [] all = tt
 at-or-below start (t ∷ strokes) all = (omega (arith, all.0), at-or-below start strokes all.1)
 
 healed-rise : (p : Printer) (h : Halftone) (last : ℕ) (strokes : List HeadStroke) → AllByRecursion (λ (s : HeadStroke). last ≤ s.start) strokes
-    → StartsRise strokes → IsRising last (map (healed_stroke p h) strokes)
+    → StartsRise strokes → GoDown last (map (healed_stroke p h) strokes)
 healed-rise p h last [] above rises = tt
 healed-rise p h last (s ∷ strokes) above rises =
     (above.0, healed-rise p h s.start strokes (at-or-below s.start strokes rises.0) rises.1)
@@ -140,7 +140,7 @@ from-zero (s ∷ strokes) = (omega arith, from-zero strokes)
 -- one row for each nozzle, as wide as the window
 rows-wide : (h : Halftone) (shots : List Shot) (ink : Ink) (is : List ℕ) → AllWide h.width (map (row_by h shots ink) is)
 rows-wide h shots ink [] = tt
-rows-wide h shots ink (i ∷ is) = (fired_row-len h ink (row_of shots i), rows-wide h shots ink is)
+rows-wide h shots ink (i ∷ is) = (fired_row-len h ink (shot_row shots i), rows-wide h shots ink is)
 
 stroke-whole : (p : Printer) (h : Halftone) (s : HeadStroke) (ink : Ink) → IsWhole p.nozzles h.width ((healed_stroke p h s).rows ink)
 stroke-whole p h s ink = grind (arith, count_from-len, length-map, row_by, rows-wide)
@@ -155,7 +155,7 @@ stroke-on_window : (dead : List ℕ) (p : Printer) (h : Halftone) (s : HeadStrok
 stroke-on_window dead p h s shape ink = record {
   row = λ i e.
       let few : i < p.nozzles = counted-any (row_by h s.shots ink) 0 p.nozzles i e in
-      let some = fired-some h ink (row_of s.shots i) (ap (list_any (λ on. on)) (sym (nozzle-row p h s ink i few)) ∙ e) in
+      let some = fired-some h ink (shot_row s.shots i) (ap (list_any (λ on. on)) (sym (nozzle-row p h s ink i few)) ∙ e) in
       let o : Over (worn_head dead p h.height) s.start i some.0 = row-over (worn_head dead p h.height) s i some.0 few shape some.1 in
       (omega (arith, o.place), omega (arith, o.place, o.low));
 }
@@ -186,7 +186,7 @@ healed-fires dead p h can good =
 -- ---- the bytes of the strokes
 
 -- a dead nozzle fires nothing
-dead-row : (head : Head) (s : HeadStroke) (i : ℕ) → i < head.nozzles → IsStrokeAt head s → has head.dead i ≡ true → row_of s.shots i ≡ None
+dead-row : (head : Head) (s : HeadStroke) (i : ℕ) → i < head.nozzles → IsStrokeAt head s → has head.dead i ≡ true → shot_row s.shots i ≡ None
 dead-row head s i few shape e = grind (arith, stroke-row, wanted_row)
 
 -- No row of their rasters has a dot where its nozzle is dead.

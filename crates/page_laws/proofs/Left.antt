@@ -6,7 +6,7 @@ use Rattle.escp2_definitions.specs.declared.command.Command.TheVariants as c
 use Rattle.escp2_definitions.specs.declared.stops.EmulatorFault.{EmulatorFault}
 use Rattle.escp2_definitions.specs.declared.stops.EmulatorFault.TheVariants.{Backward}
 use Rattle.escp2_definitions.specs.Commands.{Entry}
-use Rattle.escp2_definitions.specs.Machine.{Dot, Machine, Printed, after, execute_from, first_fault, given, refusals, with_sheets}
+use Rattle.escp2_definitions.specs.Machine.{Dot, Machine, Printed, after, execute_from, first_refusal, given, refusals, with_sheets}
 use Rattle.escp2_definitions.specs.Written.{written}
 use Rattle.page_definitions.specs.Printing.{state_after}
 use Rattle.page_definitions.specs.Strokes.{Spoken, say}
@@ -19,7 +19,7 @@ outcome p m entry rest None = with_sheets (given p m entry.command) (execute_fro
 
 -- a command at the head of a run that has no refusal is accepted
 head-accepted : (p : Printer) (m : Machine) (entry : Entry) (rest : List Entry) → (execute_from p m (entry ∷ rest)).refused ≡ None
-    → first_fault (refusals p m entry.command entry.rows) ≡ None
+    → first_refusal (refusals p m entry.command entry.rows) ≡ None
 unfolding execute_from
 head-accepted p m entry rest none = grind (arith, outcome)
 
@@ -33,7 +33,7 @@ tail-accepted p m entry rest none =
 -- The last command of a run that has no refusal is accepted in the state after those before it.
 last-accepted : (p : Printer) (m : Machine) (before : List Entry) (entry : Entry)
     → (execute_from p m (before ++ entry ∷ [])).refused ≡ None
-    → first_fault (refusals p (state_after p m before) entry.command entry.rows) ≡ None
+    → first_refusal (refusals p (state_after p m before) entry.command entry.rows) ≡ None
 last-accepted p m [] entry none = head-accepted p m entry [] none
 last-accepted p m (first ∷ before) entry none =
     last-accepted p (after p m first.command first.rows) before entry (tail-accepted p m first (before ++ entry ∷ []) none)

@@ -9,7 +9,7 @@ use Rattle.printer_definitions.specs.Inks.{inks_of}
 use Rattle.printer_definitions.specs.Printer.{Printer, row_units}
 use Rattle.escp2_definitions.specs.declared.command.Command.TheVariants as c
 use Rattle.escp2_definitions.specs.Machine.{Dot, Machine, Sheet, execute_from, given, start, with_sheets}
-use Rattle.page_definitions.specs.Strokes.{IsOnWindow, IsRising, IsWhole, Spoken, Stroke, down_by, fires, has_dot}
+use Rattle.page_definitions.specs.Strokes.{GoDown, IsOnWindow, IsWhole, Spoken, Stroke, down_by, fires, has_dot}
 use Rattle.page_definitions.specs.Strokes.{rows_fired, say, stroke_fired, strokes_commands}
 use Rattle.page_laws.proofs.Once.{Once, once-front, once-regroup}
 use Rattle.page_laws.proofs.Fired.{blank-rows, or-false}
@@ -60,12 +60,12 @@ all-lie w (stroke ∷ strokes) whole on = by_stroke (fires w.printer stroke) ref
     by_stroke false e rest = rest
 
 -- strokes that rise from a row rise from one above it
-rising-from : (last higher : ℕ) (strokes : List Stroke) → higher ≤ last → IsRising last strokes → IsRising higher strokes
+rising-from : (last higher : ℕ) (strokes : List Stroke) → higher ≤ last → GoDown last strokes → GoDown higher strokes
 rising-from last higher [] le rising = tt
 rising-from last higher (stroke ∷ strokes) le rising = (omega (arith, rising.0), rising.1)
 
 -- some of the strokes rise as all of them do
-pub rising-some : (test : Stroke → Bool) (last : ℕ) (strokes : List Stroke) → IsRising last strokes → IsRising last (filter test strokes)
+pub rising-some : (test : Stroke → Bool) (last : ℕ) (strokes : List Stroke) → GoDown last strokes → GoDown last (filter test strokes)
 rising-some test last [] rising = tt
 rising-some test last (stroke ∷ strokes) rising = grind (arith, rising-from, rising-some test stroke.start strokes rising.1)
 
@@ -96,7 +96,7 @@ fires_strokes w last strokes = strokes_commands w.printer w.halftone.width w.cod
 
 -- strokes fire their dots, one after another
 pub strokes-run : (w : Layout) (strokes : List Stroke) (last : ℕ) (dots : List Dot) (job : List Spoken) → IsLayout w
-    → IsRising last strokes → AllByRecursion (Lies w) strokes → Once (dots ++ strokes_dots w strokes)
+    → GoDown last strokes → AllByRecursion (Lies w) strokes → Once (dots ++ strokes_dots w strokes)
     → (row : ℕ) × Goes w last dots (fires_strokes w last strokes ++ job) row (dots ++ strokes_dots w strokes) job
 strokes-run w [] last dots job is rising lie once = (last, goes-here w last dots [] job refl)
 strokes-run w (stroke ∷ strokes) last dots job is rising lie once =
@@ -143,7 +143,7 @@ ends w m first row across columns ink dots job at comes =
 
 -- The job of a page gives one sheet with the dots that its strokes fire, and leaves the machine as at the start.
 pub page-run : (w : Layout) (strokes : List Stroke) (m : Machine) (job : List Spoken) (at : ℕ) → IsLayout w → m.dots ≡ []
-    → IsRising 0 strokes → AllByRecursion (Lies w) (filter (fires w.printer) strokes) → Once (strokes_dots w strokes)
+    → GoDown 0 strokes → AllByRecursion (Lies w) (filter (fires w.printer) strokes) → Once (strokes_dots w strokes)
     → (sheet : Sheet) × (at' : ℕ) × (sheet.dots ≡ strokes_dots w strokes)
     × (execute_from w.printer m (entries w.coding.code at (page_says w strokes ++ job))
     ≡ with_sheets (sheet ∷ []) (execute_from w.printer start (entries w.coding.code at' job)))

@@ -8,7 +8,7 @@ use Rattle.printer_definitions.specs.Printer.{row_step, row_units}
 use Rattle.escp2_definitions.specs.declared.command.Command.TheVariants as c
 use Rattle.escp2_definitions.specs.declared.stops.EmulatorFault.{EmulatorFault}
 use Rattle.escp2_definitions.specs.declared.stops.EmulatorFault.TheVariants.{NoUnit, NoMargins, Backward, OffSheet}
-use Rattle.escp2_definitions.specs.Machine.{Dot, Machine, after, first_fault, refuse, start}
+use Rattle.escp2_definitions.specs.Machine.{Dot, Machine, after, first_refusal, refuse, start}
 use Rattle.page_definitions.specs.Strokes.{Spoken, down_by, say}
 use Rattle.page_laws.proofs.Numbers.{margins-fit, row_units-is}
 use Rattle.page_laws.proofs.Running.{Comes, Goes, IsLayout, Layout, begins, comes-as, comes-here, comes-then}
@@ -42,10 +42,10 @@ prologue-run w m job is blank =
     let j2 : List Spoken = say (c.Unit 5) ∷ j3 in
     let j1 : List Spoken = say c.Graphics ∷ j2 in
     let j0 : List Spoken = say c.Init ∷ j1 in
-    let may_begin : Bool → Option EmulatorFault = λ b. first_fault (refuse b Backward ∷ []) in
-    let fits : Bool → Option EmulatorFault = λ b. first_fault (refuse false NoUnit ∷ refuse false Backward ∷ refuse b OffSheet ∷ []) in
+    let may_begin : Bool → Option EmulatorFault = λ b. first_refusal (refuse b Backward ∷ []) in
+    let fits : Bool → Option EmulatorFault = λ b. first_refusal (refuse false NoUnit ∷ refuse false Backward ∷ refuse b OffSheet ∷ []) in
     let fits_margins : Bool → Option EmulatorFault = λ b.
-    first_fault (refuse false NoUnit ∷ refuse false NoMargins ∷ refuse false Backward ∷ refuse b OffSheet ∷ []) in
+    first_refusal (refuse false NoUnit ∷ refuse false NoMargins ∷ refuse false Backward ∷ refuse b OffSheet ∷ []) in
     let from_top : 0 * 5 ≡ 0 * row_units w.printer * 5 = omega arith in
     comes-as w m s4 (paused w 0 0 1 Black []) j0 j0 j8 refl (ap (λ d. record s4 { down = d }) from_top)
     (comes-then w m start s4 j0 j1 j8 (one w m c.Init [] j1 (ap may_begin no_dots) refl)
@@ -100,7 +100,7 @@ down-run w last row dots job is le low = by_units ((row - last) * row_units w.pr
         let on_sheet : nat_lt (len_of w * 5) (first_of w * 5 + last * u * 5 + suc n * 5) ≡ false =
         le-ltb _ _ (omega (arith, fits, down (suc n) e)) in
         let accepted : Bool → Option EmulatorFault =
-        λ b. first_fault (refuse false NoUnit ∷ refuse false NoMargins ∷ refuse b OffSheet ∷ []) in (
+        λ b. first_refusal (refuse false NoUnit ∷ refuse false NoMargins ∷ refuse b OffSheet ∷ []) in (
           across,
           columns,
           ink,

@@ -6,7 +6,7 @@ use Rattle.printer_definitions.specs.Printer.{Printer, row_units}
 use Rattle.escp2_definitions.specs.declared.command.Command.{Command}
 use Rattle.escp2_definitions.specs.declared.stops.EmulatorFault.{EmulatorFault}
 use Rattle.escp2_definitions.specs.Commands.{Entry}
-use Rattle.escp2_definitions.specs.Machine.{Dot, Machine, after, execute_from, first_fault, given, refusals, with_sheets}
+use Rattle.escp2_definitions.specs.Machine.{Dot, Machine, after, execute_from, first_refusal, given, refusals, with_sheets}
 use Rattle.escp2_definitions.specs.Written.{Coding, IsCoding, written}
 use Rattle.escp2_laws.specs.Said.{Said, entries_of}
 use Rattle.page_definitions.specs.Strokes.{Spoken, prologue}
@@ -83,7 +83,7 @@ comes-as w s1 s2 t2 job1 job job2 e f comes at =
 
 -- a command that is accepted
 pub one-runs : (w : Layout) (s : Machine) (command : Command) (rows : List ℕ) (job : List Spoken) (at : ℕ)
-    → first_fault (refusals w.printer s command rows) ≡ None
+    → first_refusal (refusals w.printer s command rows) ≡ None
     → (at' : ℕ) × (execute_from w.printer s (entries w.coding.code at (record { command = command; rows = rows } ∷ job))
     ≡ with_sheets (given w.printer s command) (execute_from w.printer (after w.printer s command rows) (entries w.coding.code at' job)))
 unfolding execute_from
@@ -99,7 +99,7 @@ one-runs w s command rows job at accepted =
 
 -- a command that is accepted and gives no sheet
 pub one : (w : Layout) (s : Machine) (command : Command) (rows : List ℕ) (job : List Spoken)
-    → first_fault (refusals w.printer s command rows) ≡ None → given w.printer s command ≡ []
+    → first_refusal (refusals w.printer s command rows) ≡ None → given w.printer s command ≡ []
     → Comes w s (record { command = command; rows = rows } ∷ job) (after w.printer s command rows) job
 one w s command rows job accepted no_sheet at =
     let run = one-runs w s command rows job at accepted in (

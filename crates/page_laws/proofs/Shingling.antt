@@ -22,7 +22,7 @@ use Rattle.page_definitions.specs.Dots.{Halftone}
 use Rattle.page_definitions.specs.PageBytes.{fired_row, page_coding}
 use Rattle.page_definitions.specs.RasterRows.{FiresHalf, RasterRows, StrokeRows}
 use Rattle.page_definitions.specs.Shingled.{shingled, shingled_bytes, shingled_row, shingled_stroke}
-use Rattle.page_definitions.specs.Strokes.{Fires, IsOnWindow, IsRising, IsWhole, Stroke}
+use Rattle.page_definitions.specs.Strokes.{Fires, GoDown, IsOnWindow, IsWhole, Stroke}
 use Rattle.shingle_plan.specs.Fits.{Shingles}
 use Rattle.shingle_plan.specs.Shingles.{Shingle, fires_even, half, rows_above, shingle, shingle_count, shingle_row}
 use Rattle.shingle_plan.proofs.Rows.{lands}
@@ -136,7 +136,7 @@ shingles-hit p h fits =
 
 -- each pass begins below the one before
 shingles-rise : (p : Printer) (h : Halftone) (last t many : ℕ)
-    → last ≤ t * half p.nozzles → IsRising last (map (shingled_stroke p h) (count_from t many))
+    → last ≤ t * half p.nozzles → GoDown last (map (shingled_stroke p h) (count_from t many))
 shingles-rise p h last t zero le = tt
 shingles-rise p h last t (suc many) le = (le, shingles-rise p h (t * half p.nozzles) (t + 1) many (omega arith))
 

@@ -12,7 +12,7 @@ use Rattle.base_definitions.specs.Packed.{at}
 use Rattle.separation_definitions.specs.CanPrint.{CanPrint}
 use Rattle.page_definitions.specs.Dots.{Halftone}
 use Rattle.page_definitions.specs.PageBytes.{fired_row, pass_stroke, weave}
-use Rattle.page_definitions.specs.Strokes.{Fires, IsOnWindow, IsRising, IsWhole, Stroke}
+use Rattle.page_definitions.specs.Strokes.{Fires, GoDown, IsOnWindow, IsWhole, Stroke}
 use Rattle.base_definitions.specs.Counting.{count_from}
 use Rattle.weave_definitions.specs.Weave.{Firing, firing, nozzle_row, pass_count, passes}
 use Rattle.weave_definitions.proofs.Firings.{each_row}
@@ -78,7 +78,7 @@ weave-hits p h can =
 
 -- each pass begins below the one before
 weave-rises : (p : Printer) (h : Halftone) (last t many : ℕ)
-    → last ≤ t * p.nozzles → IsRising last (map (pass_stroke p h) (count_from t many))
+    → last ≤ t * p.nozzles → GoDown last (map (pass_stroke p h) (count_from t many))
 weave-rises p h last t zero le = tt
 weave-rises p h last t (suc many) le = (le, weave-rises p h (t * p.nozzles) (t + 1) many (omega arith))
 

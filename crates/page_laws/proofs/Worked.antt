@@ -9,7 +9,7 @@ use Rattle.printer_definitions.specs.declared.inks.Ink.TheVariants.{Black}
 use Rattle.escp2_laws.specs.Examples.{three_nozzles}
 use Rattle.separation_definitions.specs.CanPrint.{CanPrint}
 use Rattle.page_definitions.specs.Strokes.{Fires, IsOnWindow, IsWhole, Strokes}
-use Rattle.page_laws.specs.Shingles.{made_up, shingles, two_black_rows}
+use Rattle.page_laws.specs.Shingles.{fired_twice, made_up, two_black_rows}
 use Rattle.page_laws.proofs.Hits.{FiresEachDot, fires-exactly, hits}
 
 -- rows of eight columns for each nozzle, on the window
@@ -51,7 +51,7 @@ told : (strokes : Strokes) → agree_below (λ x. hits three_nozzles strokes.abo
 told strokes first second = grind (arith, agree_below_at, eqb-true, hits)
 
 -- Shingled rows print their window.
-pub shingles-fire : Fires three_nozzles two_black_rows shingles
+pub shingles-fire : Fires three_nozzles two_black_rows fired_twice
 shingles-fire = grind (arith, common_steps, AllOn, AllWhole, fires-exactly, three-can, three-on, three-whole, told)
 
 -- Rows that are made up print their window.

@@ -38,15 +38,15 @@ three_rows a b d = raster_bytes 0x00 0x14 0x0A 0x03 0x08 (0x00 ∷ a ∷ 0x00 �
 -- ---- shingled rows
 
 -- each row is fired twice: its even columns by the nozzle in the middle, and its odd columns by the first
-abbrev pub shingles : Strokes
-shingles = record {
+abbrev pub fired_twice : Strokes
+fired_twice = record {
   above = 2;
   list = stroke 0 (blank ∷ even ∷ blank ∷ []) ∷ stroke 1 (blank ∷ even ∷ blank ∷ [])
       ∷ stroke 2 (odd ∷ blank ∷ blank ∷ []) ∷ stroke 3 (odd ∷ blank ∷ blank ∷ []) ∷ [];
 }
 
-abbrev pub shingles_bytes : List ℕ
-shingles_bytes =
+abbrev pub fired_twice_bytes : List ℕ
+fired_twice_bytes =
     prologue_bytes 0x0C 0x04 0x0C
     ++ three_rows 0x00 0xAA 0x00
     ++ down_bytes 0x02 ++ three_rows 0x00 0xAA 0x00
@@ -54,8 +54,8 @@ shingles_bytes =
     ++ down_bytes 0x02 ++ three_rows 0x55 0x00 0x00
     ++ end_bytes
 
-abbrev pub shingles_dots : List Dot
-shingles_dots =
+abbrev pub fired_twice_dots : List Dot
+fired_twice_dots =
     dots_at 40 (0 ∷ 2 ∷ 4 ∷ 6 ∷ []) ++ dots_at 50 (0 ∷ 2 ∷ 4 ∷ 6 ∷ [])
     ++ dots_at 40 (1 ∷ 3 ∷ 5 ∷ 7 ∷ []) ++ dots_at 50 (1 ∷ 3 ∷ 5 ∷ 7 ∷ [])
 

@@ -8,7 +8,7 @@ ghost use Rattle.page_definitions.specs.Dots.{Halftone};
 ghost use Rattle.page_definitions.specs.RasterRows.{FiresHalf, RasterRows};
 ghost use Rattle.page_definitions.specs.Shingled.{shingled, shingled_bytes};
 ghost use Rattle.page_definitions.specs.Strokes.{Fires};
-ghost use Rattle.page_laws.specs.Shingles.{shingles, two_black_rows};
+ghost use Rattle.page_laws.specs.Shingles.{fired_twice, two_black_rows};
 ghost use Rattle.page_laws.specs.Sized.{Sized};
 ghost use Rattle.printer_definitions.specs.Printer.{Printer, row_units};
 ghost use Rattle.printer_definitions.specs.declared.inks.Ink.{Ink};
@@ -38,5 +38,5 @@ pub fn shingles_have_passes()
 
 /// The shingled passes of three nozzles two rows apart over two black rows are the worked strokes.
 pub fn worked_shingles_are_shingled()
-    ensures { shingled three_nozzles two_black_rows ≡ shingles }
+    ensures { shingled three_nozzles two_black_rows ≡ fired_twice }
 {}

@@ -7,28 +7,28 @@ ghost use Rattle.escp2_definitions.specs.Machine.{execute};
 ghost use Rattle.escp2_laws.specs.Examples.{three_nozzles};
 ghost use Rattle.page_definitions.specs.PageBytes.{page_coding};
 ghost use Rattle.page_definitions.specs.Strokes.{Fires, fired, strokes_bytes};
-ghost use Rattle.page_laws.specs.Shingles.{made_up, made_up_bytes, made_up_dots, shingles, shingles_bytes};
-ghost use Rattle.page_laws.specs.Shingles.{shingles_dots, two_black_rows};
+ghost use Rattle.page_laws.specs.Shingles.{fired_twice, fired_twice_bytes, made_up, made_up_bytes, made_up_dots};
+ghost use Rattle.page_laws.specs.Shingles.{fired_twice_dots, two_black_rows};
 ghost use Rattle.std.specs.Prelude.{None, [], length, ◌∷◌, ◌≡◌};
 
 /// Rows that are fired twice, and rows that another nozzle makes up for a nozzle that fires nothing, print their
 /// window.
 pub fn worked_strokes_fire()
-    ensures shingled_rows { Fires three_nozzles two_black_rows shingles }
+    ensures shingled_rows { Fires three_nozzles two_black_rows fired_twice }
     ensures made_up_rows { Fires three_nozzles two_black_rows made_up }
 {}
 
 /// The bytes of rows that are fired twice, and the dots of their strokes.
 pub fn shingled_rows_fire_even_and_odd_columns()
-    ensures len { length shingles_bytes ≡ 142 }
-    ensures bytes { strokes_bytes page_coding three_nozzles 8 2 12 shingles ≡ shingles_bytes }
-    ensures dots { fired three_nozzles shingles ≡ shingles_dots }
+    ensures len { length fired_twice_bytes ≡ 142 }
+    ensures bytes { strokes_bytes page_coding three_nozzles 8 2 12 fired_twice ≡ fired_twice_bytes }
+    ensures dots { fired three_nozzles fired_twice ≡ fired_twice_dots }
 {}
 
 /// What the printer makes of these bytes: two black rows.
 pub fn shingled_rows_are_printed()
-    ensures { execute three_nozzles (commands shingles_bytes).entries ≡ record {
-      sheets = record { rows = 6; columns = 8; dots = shingles_dots } ∷ [];
+    ensures { execute three_nozzles (commands fired_twice_bytes).entries ≡ record {
+      sheets = record { rows = 6; columns = 8; dots = fired_twice_dots } ∷ [];
       refused = None;
     } }
 {}

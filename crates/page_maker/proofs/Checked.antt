@@ -7,38 +7,38 @@ use Rattle.pwg_definitions.specs.declared.pages.Header.{Header}
 use Rattle.pwg_definitions.specs.declared.pages.Wanted.{Wanted}
 use Rattle.pwg_definitions.specs.declared.faults.HeaderFault.{HeaderFault}
 use Rattle.pwg_definitions.specs.declared.faults.HeaderFault.TheVariants as fault
-use Rattle.pwg_definitions.specs.Header.{IsWanted, KindRow, check, first_fault, form_of, header_bytes, header_of, header_tests, is_outside}
+use Rattle.pwg_definitions.specs.Header.{IsWanted, KindRow, check, first_header_fault, header_bytes, header_form, header_of, header_tests, is_outside}
 use Rattle.pwg_definitions.specs.Header.{kind_of, line_bytes, row_of}
 use Rattle.pwg_laws.proofs.HeaderLaws.{check-header_bytes}
 
 -- where there is no first fault, no test holds
-no_test_holds : (tests : List (Bool × HeaderFault)) → first_fault tests ≡ None
+no_test_holds : (tests : List (Bool × HeaderFault)) → first_header_fault tests ≡ None
     → AllByRecursion (λ (t : Bool × HeaderFault). t.0 ≡ false) tests
 no_test_holds [] e = tt
 no_test_holds (test ∷ tests) e = by_test (no_test_holds tests) test.0 refl e
   where
-    by_test : (first_fault tests ≡ None → AllByRecursion (λ (t : Bool × HeaderFault). t.0 ≡ false) tests) → (b : Bool) → test.0 ≡ b
-        → (if b then Some test.1 else first_fault tests) ≡ None → AllByRecursion (λ (t : Bool × HeaderFault). t.0 ≡ false) (test ∷ tests)
+    by_test : (first_header_fault tests ≡ None → AllByRecursion (λ (t : Bool × HeaderFault). t.0 ≡ false) tests) → (b : Bool) → test.0 ≡ b
+        → (if b then Some test.1 else first_header_fault tests) ≡ None → AllByRecursion (λ (t : Bool × HeaderFault). t.0 ≡ false) (test ∷ tests)
     by_test after true is none = absurd (let never : Some test.1 ≡ None = none in cc)
     by_test after false is none = (is, after none)
 
 -- What is known of a header that is accepted: no test holds, and its kind gives the form.
 record IsAccepted (want : Wanted) (h : Header) (form : PageForm) : Type 0 where
   tests : AllByRecursion (λ (t : Bool × HeaderFault). t.0 ≡ false) (header_tests want h)
-  gives : form_of h (kind_of h) ≡ Ok form
+  gives : header_form h (kind_of h) ≡ Ok form
 
 accepted_is : (want : Wanted) (h : Header) (form : PageForm) → check want h ≡ Ok form → IsAccepted want h form
-accepted_is want h form accepted = by_fault (first_fault (header_tests want h)) refl accepted
+accepted_is want h form accepted = by_fault (first_header_fault (header_tests want h)) refl accepted
   where
-    by_fault : (o : Option HeaderFault) → first_fault (header_tests want h) ≡ o
-        → (elim o as (λ _. Result PageForm HeaderFault) [ None ↦ form_of h (kind_of h) | Some f ↦ Err f ]) ≡ Ok form
+    by_fault : (o : Option HeaderFault) → first_header_fault (header_tests want h) ≡ o
+        → (elim o as (λ _. Result PageForm HeaderFault) [ None ↦ header_form h (kind_of h) | Some f ↦ Err f ]) ≡ Ok form
         → IsAccepted want h form
     by_fault None is e = record { tests = no_test_holds (header_tests want h) is; gives = e }
     by_fault (Some f) is e = absurd (let never : Err f ≡ Ok form = e in cc)
 
 -- the size of a header is that of its form
-size_is : (h : Header) (form : PageForm) (o : Option KindRow) → form_of h o ≡ Ok form → (h.width ≡ form.width) × (h.height ≡ form.height)
-size_is h form None e = absurd (let never : form_of h None ≡ Ok form = e in cc)
+size_is : (h : Header) (form : PageForm) (o : Option KindRow) → header_form h o ≡ Ok form → (h.width ≡ form.width) × (h.height ≡ form.height)
+size_is h form None e = absurd (let never : header_form h None ≡ Ok form = e in cc)
 size_is h form (Some row) e =
     let made : PageForm = record { width = h.width; height = h.height; kind = row.kind; bytes_per_line = h.bytes_per_line } in
     let same : Ok made ≡ Ok form = e in
@@ -47,15 +47,15 @@ size_is h form (Some row) e =
 
 -- what the check says, by its tests
 verdict : Header → Bool → Bool → Bool → Bool → Bool → Bool → Bool → Bool → Result PageForm HeaderFault
-verdict h text resolution width height kind bytes order transform = elim (first_fault (
+verdict h text resolution width height kind bytes order transform = elim (first_header_fault (
     (text, fault.NotPwg) ∷ (resolution, fault.Resolution) ∷ (width, fault.Width) ∷ (height, fault.Height) ∷ (kind, fault.Kind)
     ∷ (bytes, fault.BytesPerLine) ∷ (order, fault.Order) ∷ (transform, fault.Transform) ∷ [])) as (λ _. Result PageForm HeaderFault) [
-      | None ↦ form_of h (kind_of h)
+      | None ↦ header_form h (kind_of h)
       | Some f ↦ Err f
     ]
 
 -- where only the tests of the size may hold
-verdict-by_size : (h : Header) (form : PageForm) (wide tall : Bool) → form_of h (kind_of h) ≡ Ok form
+verdict-by_size : (h : Header) (form : PageForm) (wide tall : Bool) → header_form h (kind_of h) ≡ Ok form
     → verdict h false false wide tall false false false false
     ≡ (if wide then Err fault.Width else if tall then Err fault.Height else Ok form)
 unfolding verdict

@@ -14,8 +14,8 @@ to_come form hdpi vdpi pages lines state =
     groups_bytes page.groups ++ pages_bytes (header_bytes form hdpi vdpi) (groups_of_pages form pages page.state)
 
 -- the form of the pages
-abbrev pub form_of : Pieces → PageForm
-form_of pieces = pieces.form
+abbrev pub pieces_form : Pieces → PageForm
+pieces_form pieces = pieces.form
 
 -- the bytes that the pieces to come have
 abbrev pub left_of : Pieces → List ℕ

@@ -1,5 +1,5 @@
 //! A made stream as a source.
-ghost use Rattle.page_maker.specs.Pieces.{form_of, left_of, most_bytes};
+ghost use Rattle.page_maker.specs.Pieces.{left_of, most_bytes, pieces_form};
 ghost use Rattle.std.specs.Io.{ReadsAtMost};
 ghost use Rattle.std.specs.Io.KnownBytes.{ReadConsumes};
 ghost use Rattle.std.specs.Prelude.{IsOk, Some, [], drop, vec_capacity, vec_len, ◌++◌, ◌≡◌, ◌≤◌};
@@ -23,7 +23,7 @@ pub struct PageMaker {
 }
 
 impl Model for PageMaker {
-    ghost use Rattle.page_maker.specs.Pieces.{form_of, left_of, most_bytes};
+    ghost use Rattle.page_maker.specs.Pieces.{left_of, most_bytes, pieces_form};
     ghost use Rattle.std.specs.Prelude.{List, drop, vec_capacity, vec_len, ℕ, ◌++◌, ◌≤◌};
 
     ghost Value = { List ℕ };
@@ -67,11 +67,11 @@ impl PageMaker {
 // Makes the next piece, where all of the last one was read and more are to come.
 fn refill(pieces: &mut Pieces, piece: &mut Vec<u8>, given: &mut usize)
     requires within { given.old ≤ vec_len piece.old }
-    requires room { most_bytes (form_of pieces.old) ≤ vec_capacity piece.old }
+    requires room { most_bytes (pieces_form pieces.old) ≤ vec_capacity piece.old }
     ensures left { drop given.new piece.new.items ++ left_of pieces.new
         ≡ drop given.old piece.old.items ++ left_of pieces.old }
     ensures within { given.new ≤ vec_len piece.new }
-    ensures room { most_bytes (form_of pieces.new) ≤ vec_capacity piece.new }
+    ensures room { most_bytes (pieces_form pieces.new) ≤ vec_capacity piece.new }
     ensures end { vec_len piece.new ≤ given.new → left_of pieces.new ≡ [] }
 {
     if *given < piece.len() || pieces.is_done() {

@@ -26,7 +26,7 @@ pub struct Pieces {
 }
 
 impl Pieces {
-    ghost use Rattle.page_maker.specs.Pieces.{form_of, left_of, most_bytes, most_left, to_come};
+    ghost use Rattle.page_maker.specs.Pieces.{left_of, most_bytes, most_left, pieces_form, to_come};
     ghost use Rattle.std.specs.Prelude.{IfOk, IsOk, List, OnOk, vec_capacity, vec_len, ℕ, ◌++◌, ◌+◌, ◌<◌, ◌==◌, ◌≤◌};
 
     /// The pieces of pages of this form. It allocates the bytes of one line, and no other memory.
@@ -40,7 +40,7 @@ impl Pieces {
     ) -> Result<Pieces, Memory>
         requires { form.bytes_per_line ≡ line_bytes form.width (row_of form.kind).bits_per_pixel }
         ensures left { IfOk result (λ pieces. left_of pieces ≡ to_come form hdpi vdpi pages 0 seed) }
-        ensures form { IfOk result (λ pieces. form_of pieces ≡ form) }
+        ensures form { IfOk result (λ pieces. pieces_form pieces ≡ form) }
     {
         let line = vec![in alloc; 0; form.bytes_per_line as usize]?;
         Ok(Pieces {
@@ -69,9 +69,9 @@ impl Pieces {
         ensures part { (part : List ℕ) × (out.new.items ≡ out.old.items ++ part) }
         ensures some { OnOk result (vec_len out.old < vec_len out.new) }
         ensures fewer { OnOk result (most_left self.new < most_left self.old) }
-        ensures form { form_of self.new ≡ form_of self.old }
+        ensures form { pieces_form self.new ≡ pieces_form self.old }
         ensures capacity { vec_capacity out.old ≤ vec_capacity out.new }
-        ensures room { vec_len out.old + most_bytes (form_of self.old) ≤ vec_capacity out.old → IsOk result }
+        ensures room { vec_len out.old + most_bytes (pieces_form self.old) ≤ vec_capacity out.old → IsOk result }
     {
         if self.lines == 0 {
             self.put_header(out)
@@ -88,9 +88,9 @@ impl Pieces {
         ensures part { (part : List ℕ) × (out.new.items ≡ out.old.items ++ part) }
         ensures some { OnOk result (vec_len out.old < vec_len out.new) }
         ensures fewer { OnOk result (most_left self.new < most_left self.old) }
-        ensures form { form_of self.new ≡ form_of self.old }
+        ensures form { pieces_form self.new ≡ pieces_form self.old }
         ensures capacity { vec_capacity out.old ≤ vec_capacity out.new }
-        ensures room { vec_len out.old + most_bytes (form_of self.old) ≤ vec_capacity out.old → IsOk result }
+        ensures room { vec_len out.old + most_bytes (pieces_form self.old) ≤ vec_capacity out.old → IsOk result }
     {
         let mut header = [0; HEADER_LEN];
         write_header(&self.form, self.hdpi, self.vdpi, &mut header);
@@ -107,9 +107,9 @@ impl Pieces {
         ensures part { (part : List ℕ) × (out.new.items ≡ out.old.items ++ part) }
         ensures some { OnOk result (vec_len out.old < vec_len out.new) }
         ensures fewer { OnOk result (most_left self.new < most_left self.old) }
-        ensures form { form_of self.new ≡ form_of self.old }
+        ensures form { pieces_form self.new ≡ pieces_form self.old }
         ensures capacity { vec_capacity out.old ≤ vec_capacity out.new }
-        ensures room { vec_len out.old + most_bytes (form_of self.old) ≤ vec_capacity out.old → IsOk result }
+        ensures room { vec_len out.old + most_bytes (pieces_form self.old) ≤ vec_capacity out.old → IsOk result }
     {
         let repeats = (1 + u32::from(self.draws.next() % 4)).min(self.lines);
         let unit = self.form.kind.unit();

@@ -5,7 +5,7 @@ use Rattle.std.specs.Prelude.{slice_get}
 use Rattle.std.proofs.Math.Nat.{div-le_self, mul-le-mul_left, mul-le-mul_right}
 use Rattle.base_definitions.specs.Limits.{most_rows}
 use Rattle.dead_nozzles.specs.Dead.{checked}
-use Rattle.dead_nozzles.specs.Plans.{row_of, stroke_in}
+use Rattle.dead_nozzles.specs.Plans.{shot_row, stroke_in}
 use Rattle.dead_nozzles.specs.Strokes.{Head, HeadStroke, IsHead, all_strokes}
 use Rattle.dead_nozzles.proofs.Starts.{all-rise}
 use Rattle.dead_nozzles.proofs.Strokes.{all-few, in-low, in-over, in-rises, map-places, missing-few}
@@ -80,7 +80,7 @@ healed_suit dead p t f can good wanted width rows inks =
       over = record {
         rows = refl;
         columns = on.columns;
-        wide = λ stroke place nozzle. plane_row-len t place (row_of (stroke_in (all_strokes head) stroke).shots nozzle);
+        wide = λ stroke place nozzle. plane_row-len t place (shot_row (stroke_in (all_strokes head) stroke).shots nozzle);
       };
       inks = inks;
       nozzles = refl;
@@ -97,9 +97,9 @@ rows-are : (dead : List ℕ) (p : Printer) (t : DotTable) (h : Halftone) (place 
     → slice_get (inks_of p.inks) place ≡ Some ink
     → shot_rows p h (stroke_in (all_strokes (worn_head dead p h.height)) stroke).shots ink ≡ stroke_rows (healed_of dead p t) t stroke place
 rows-are dead p t h place stroke ink head shows is =
-    map-counted (λ i. fired_row h ink (row_of (stroke_in (all_strokes (worn_head dead p h.height)) stroke).shots i))
+    map-counted (λ i. fired_row h ink (shot_row (stroke_in (all_strokes (worn_head dead p h.height)) stroke).shots i))
     (λ i. healed_plane_row t (worn_head dead p t.rows) stroke place i) 0 p.nozzles
-    (λ i low. plane_row-is p t h place ink shows is (row_of (stroke_in (all_strokes (worn_head dead p h.height)) stroke).shots i)
+    (λ i low. plane_row-is p t h place ink shows is (shot_row (stroke_in (all_strokes (worn_head dead p h.height)) stroke).shots i)
     (λ y e. (in-over (worn_head dead p h.height) stroke i y head (omega (arith, low)) e).low)
     ∙ ap (λ n. healed_plane_row t (worn_head dead p n) stroke place i) (sym shows.rows_is))
 

@@ -1,7 +1,7 @@
 -- The strokes of a head with dead nozzles as strokes over planes.
 use Rattle.std.specs.Prelude.{ℕ, ◌+◌, ◌*◌, Bool, List, length}
-use Rattle.dead_nozzles.specs.Plans.{row_of, stroke_in}
-use Rattle.dead_nozzles.specs.Strokes.{Head, all_strokes, head_rows}
+use Rattle.dead_nozzles.specs.Plans.{shot_row, stroke_in}
+use Rattle.dead_nozzles.specs.Strokes.{Head, all_strokes, head_span}
 use Rattle.dot_planes.specs.Tables.{DotTable}
 use Rattle.page_definitions.specs.Dots.{Halftone}
 use Rattle.page_definitions.specs.Healed.{healed, healed_bytes, healed_passes}
@@ -15,14 +15,14 @@ use Rattle.printer_definitions.specs.Printer.{Printer}
 
 -- the row of an ink at a nozzle in a stroke: one of its plane; blank where the nozzle fires none
 abbrev pub healed_plane_row : DotTable → Head → ℕ → ℕ → ℕ → List Bool
-healed_plane_row t head stroke place nozzle = plane_row t place (row_of (stroke_in (all_strokes head) stroke).shots nozzle)
+healed_plane_row t head stroke place nozzle = plane_row t place (shot_row (stroke_in (all_strokes head) stroke).shots nozzle)
 
 -- The strokes of a head with dead nozzles.
 abbrev pub healed_strokes : Head → HeadStrokes
 healed_strokes head = record {
   rows = head.height;
   nozzles = head.nozzles;
-  above = head_rows head;
+  above = head_span head;
   count = length (all_strokes head);
   start = λ stroke. (stroke_in (all_strokes head) stroke).start;
   row = λ t stroke place nozzle. healed_plane_row t head stroke place nozzle;

@@ -5,7 +5,7 @@ use Rattle.std.proofs.lemmas.Bool.Decides.{nat_tests}
 use Rattle.separation_definitions.specs.CanPrint.{CanPrint}
 use Rattle.printer_definitions.specs.Printer.{Printer, head_rows, nozzle_step}
 use Rattle.printer_profile.specs.declared.validity.ProfileFault.{ProfileFault}
-use Rattle.printer_profile.specs.Validity.{check, curve_tests, first_fault, gcd_of, is_curve, is_resolution, profile_tests}
+use Rattle.printer_profile.specs.Validity.{check, curve_tests, first_profile_fault, gcd_of, is_curve, is_resolution, profile_tests}
 use Rattle.printer_profile.specs.declared.validity.ProfileFault.TheVariants as fault
 use Rattle.printer_profile.proofs.Divisors.{coprime_is}
 use Rattle.std.specs.Int.{IsGcd}
@@ -60,13 +60,13 @@ can_print p small h =
     }
 
 -- where no test fails, none of the later ones does
-later_pass : (tests : List (Bool × ProfileFault)) (n : ℕ) → IsOk (first_fault tests) → IsOk (first_fault (drop n tests))
+later_pass : (tests : List (Bool × ProfileFault)) (n : ℕ) → IsOk (first_profile_fault tests) → IsOk (first_profile_fault (drop n tests))
 later_pass tests zero h = h
 later_pass [] (suc n) h = h
-later_pass (test ∷ tests) (suc n) h = later_pass tests n (passed test.0 test.1 (first_fault tests) h).1
+later_pass (test ∷ tests) (suc n) h = later_pass tests n (passed test.0 test.1 (first_profile_fault tests) h).1
 
 four_good : (a b c d : Bool)
-    → IsOk (first_fault ((not a, fault.Curve 0) ∷ (not b, fault.Curve 1) ∷ (not c, fault.Curve 2) ∷ (not d, fault.Curve 3) ∷ []))
+    → IsOk (first_profile_fault ((not a, fault.Curve 0) ∷ (not b, fault.Curve 1) ∷ (not c, fault.Curve 2) ∷ (not d, fault.Curve 3) ∷ []))
     → (a ≡ true) × (b ≡ true) × (c ≡ true) × (d ≡ true)
 four_good false b c d h = absurd (cc)
 four_good true false c d h = absurd (cc)
@@ -74,7 +74,7 @@ four_good true true false d h = absurd (cc)
 four_good true true true false h = absurd (cc)
 four_good true true true true h = (refl, refl, refl, refl)
 
-curve_at : (curves : List (List ℕ)) (ink : ℕ) → IsOk (first_fault (curve_tests curves)) → ink < 4
+curve_at : (curves : List (List ℕ)) (ink : ℕ) → IsOk (first_profile_fault (curve_tests curves)) → ink < 4
     → is_curve (slice_index_or curves ink []) ≡ true
 curve_at curves ink h within = by_place ink within (four_good (good_at 0) (good_at 1) (good_at 2) (good_at 3) h) where
   good_at : ℕ → Bool

@@ -17,7 +17,7 @@ use Rattle.printer_definitions.specs.Printer.{Printer}
 use Rattle.printer_profile.specs.declared.keys.Key.{Key}
 use Rattle.printer_profile.specs.declared.keys.Key.TheVariants as key
 use Rattle.printer_profile.specs.declared.reading.Given.{Given}
-use Rattle.printer_profile.specs.Keys.{all_keys, row_of}
+use Rattle.printer_profile.specs.Keys.{all_keys, profile_key_row}
 use Rattle.printer_profile.specs.Text.{head_of, is_given, key_line, nothing, profile_given, profile_text}
 use Rattle.printer_profile.specs.Text.{profile_text_of, with_key, with_line, with_lines}
 use Rattle.key_values.specs.Numbers.{number_within}
@@ -116,7 +116,7 @@ ink_set_read Cmy = refl
 ink_set_read Cmyk = refl
 
 -- a key takes the value that it has in another profile
-taken : (p : Printer) → InRange p → (q : Printer) (k : Key) → (row_of k).put ((row_of k).text p) q ≡ Some (copy_key p k q)
+taken : (p : Printer) → InRange p → (q : Printer) (k : Key) → (profile_key_row k).put ((profile_key_row k).text p) q ≡ Some (copy_key p k q)
 unfolding copy_key
 taken p range q key.Hdpi = number_put 65535 p.hdpi _ range.hdpi (omega arith)
 taken p range q key.Vdpi = number_put 65535 p.vdpi _ range.vdpi (omega arith)
@@ -173,7 +173,7 @@ ink_set_printable K = refl
 ink_set_printable Cmy = refl
 ink_set_printable Cmyk = refl
 
-value_printable : (p : Printer) → InRange p → (k : Key) → list_all printable ((row_of k).text p) ≡ true
+value_printable : (p : Printer) → InRange p → (k : Key) → list_all printable ((profile_key_row k).text p) ≡ true
 value_printable p range key.Hdpi = decimal_printable 65535 p.hdpi range.hdpi (omega arith)
 value_printable p range key.Vdpi = decimal_printable 65535 p.vdpi range.vdpi (omega arith)
 value_printable p range key.Nozzles = decimal_printable 255 p.nozzles range.nozzles (omega arith)
@@ -195,7 +195,7 @@ value_printable p range key.CurveYellow = curve_printable _ (range.points 3)
 
 -- a key's line, without its end
 bare_line : Key → List ℕ → List ℕ
-bare_line k value = (row_of k).name ++ codes "=" ++ value
+bare_line k value = (profile_key_row k).name ++ codes "=" ++ value
 
 bare_line_printable : (k : Key) (value : List ℕ) → list_all printable value ≡ true → list_all printable (bare_line k value) ≡ true
 unfolding printable bare_line
@@ -211,18 +211,18 @@ bare_line_gives given k value h = line_of_key Two given _ value (Some k) refl h 
 
 -- a key's line is the first of the lines
 key_line_read : (p : Printer) → InRange p
-    → (k : Key) (rest : List ℕ) → lines (key_line p k ++ rest) ≡ bare_line k ((row_of k).text p) ∷ lines rest
+    → (k : Key) (rest : List ℕ) → lines (key_line p k ++ rest) ≡ bare_line k ((profile_key_row k).text p) ∷ lines rest
 unfolding bare_line
 key_line_read p range k rest =
-    ap lines (append_assoc (bare_line k ((row_of k).text p)) (10 ∷ []) rest)
-    ∙ line_read (bare_line k ((row_of k).text p)) rest (bare_line_printable k _ (value_printable p range k))
+    ap lines (append_assoc (bare_line k ((profile_key_row k).text p)) (10 ∷ []) rest)
+    ∙ line_read (bare_line k ((profile_key_row k).text p)) rest (bare_line_printable k _ (value_printable p range k))
 
 -- ---- all keys
 
 copied : Printer → Given → Key → Given
 copied p given k = record {
   profile = copy_key p k given.profile;
-  keys = slice_set given.keys ((row_of k).place - 1) true;
+  keys = slice_set given.keys ((profile_key_row k).place - 1) true;
 }
 
 all_copied : Printer → Given → List Key → Given
@@ -235,7 +235,7 @@ all_new p given [] = true
 all_new p given (k ∷ keys) = not (is_given given k) && all_new p (copied p given k) keys
 
 key_read : (p : Printer) → InRange p → (given : Given) (k : Key)
-    → is_given given k ≡ false → with_line Two given (bare_line k ((row_of k).text p)) ≡ Ok (copied p given k)
+    → is_given given k ≡ false → with_line Two given (bare_line k ((profile_key_row k).text p)) ≡ Ok (copied p given k)
 unfolding copied
 key_read p range given k new =
     sym (bare_line_gives given k _ (all_of printable is_ascii printable_ascii _ (value_printable p range k)))

@@ -11,7 +11,7 @@ use Rattle.printer_profile.specs.declared.reading.Given.{Given}
 use Rattle.printer_profile.specs.declared.reading.TextCause.{TextCause}
 use Rattle.printer_profile.specs.declared.reading.TextFault.{TextFault}
 use Rattle.printer_profile.specs.declared.reading.TextCause.TheVariants.{NotAscii, NoEquals, UnknownKey}
-use Rattle.printer_profile.specs.Keys.{curve_keys, first_keys, key_named, row_of}
+use Rattle.printer_profile.specs.Keys.{curve_keys, first_keys, key_named, profile_key_row}
 use Rattle.printer_profile.specs.Text.{StopsAtCurve, VersionsAgree, fault_at, head_of, is_curve_line, is_skipped, next_line}
 use Rattle.printer_profile.specs.Text.{nothing, profile_given, profile_text, with_key, with_line, with_lines}
 use Rattle.printer_profile.proofs.TextLemmas.{lines_fault, lines_more, text_with_head}
@@ -62,7 +62,7 @@ unfolding with_line
 line_agrees given line =
     by_tests (is_skipped line) (list_all is_ascii line) (is_key_value line) given (value_of line) (key_named One (key_of line))
     (key_named Two (key_of line)) (is_curve_line line)
-    (found (λ key. bytes_eq (row_of key).name (key_of line)) first_keys curve_keys)
+    (found (λ key. bytes_eq (profile_key_row key).name (key_of line)) first_keys curve_keys)
 
 -- the lines stop at a line with the key of a curve
 Stops : ℕ → List (List ℕ) → Result Given TextFault → Type 0

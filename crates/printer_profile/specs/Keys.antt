@@ -58,26 +58,26 @@ inks_row = record {
 }
 
 -- the row of a key
-abbrev pub row_of : Key → Row
-row_of key.Hdpi = number_row 1 (codes "hdpi") true 65535 (λ p. p.hdpi) (λ p n. record p { hdpi = n })
-row_of key.Vdpi = number_row 2 (codes "vdpi") true 65535 (λ p. p.vdpi) (λ p n. record p { vdpi = n })
-row_of key.Nozzles = number_row 3 (codes "nozzles") true 255 (λ p. p.nozzles) (λ p n. record p { nozzles = n })
-row_of key.Pitch = number_row 4 (codes "pitch") true 255 (λ p. p.pitch) (λ p n. record p { pitch = n })
-row_of key.Inks = inks_row
-row_of key.BlackStart =
+abbrev pub profile_key_row : Key → Row
+profile_key_row key.Hdpi = number_row 1 (codes "hdpi") true 65535 (λ p. p.hdpi) (λ p n. record p { hdpi = n })
+profile_key_row key.Vdpi = number_row 2 (codes "vdpi") true 65535 (λ p. p.vdpi) (λ p n. record p { vdpi = n })
+profile_key_row key.Nozzles = number_row 3 (codes "nozzles") true 255 (λ p. p.nozzles) (λ p n. record p { nozzles = n })
+profile_key_row key.Pitch = number_row 4 (codes "pitch") true 255 (λ p. p.pitch) (λ p n. record p { pitch = n })
+profile_key_row key.Inks = inks_row
+profile_key_row key.BlackStart =
     number_row 6 (codes "black_start") false 255 (λ p. p.black_start) (λ p n. record p { black_start = n })
-row_of key.LimitBlack = limit_row 7 (codes "limit_k") 0
-row_of key.LimitCyan = limit_row 8 (codes "limit_c") 1
-row_of key.LimitMagenta = limit_row 9 (codes "limit_m") 2
-row_of key.LimitYellow = limit_row 10 (codes "limit_y") 3
-row_of key.Left = number_row 11 (codes "left") false 65535 (λ p. p.left) (λ p n. record p { left = n })
-row_of key.Right = number_row 12 (codes "right") false 65535 (λ p. p.right) (λ p n. record p { right = n })
-row_of key.Top = number_row 13 (codes "top") false 65535 (λ p. p.top) (λ p n. record p { top = n })
-row_of key.Bottom = number_row 14 (codes "bottom") false 65535 (λ p. p.bottom) (λ p n. record p { bottom = n })
-row_of key.CurveBlack = curve_row 15 (codes "curve_k") 0
-row_of key.CurveCyan = curve_row 16 (codes "curve_c") 1
-row_of key.CurveMagenta = curve_row 17 (codes "curve_m") 2
-row_of key.CurveYellow = curve_row 18 (codes "curve_y") 3
+profile_key_row key.LimitBlack = limit_row 7 (codes "limit_k") 0
+profile_key_row key.LimitCyan = limit_row 8 (codes "limit_c") 1
+profile_key_row key.LimitMagenta = limit_row 9 (codes "limit_m") 2
+profile_key_row key.LimitYellow = limit_row 10 (codes "limit_y") 3
+profile_key_row key.Left = number_row 11 (codes "left") false 65535 (λ p. p.left) (λ p n. record p { left = n })
+profile_key_row key.Right = number_row 12 (codes "right") false 65535 (λ p. p.right) (λ p n. record p { right = n })
+profile_key_row key.Top = number_row 13 (codes "top") false 65535 (λ p. p.top) (λ p n. record p { top = n })
+profile_key_row key.Bottom = number_row 14 (codes "bottom") false 65535 (λ p. p.bottom) (λ p n. record p { bottom = n })
+profile_key_row key.CurveBlack = curve_row 15 (codes "curve_k") 0
+profile_key_row key.CurveCyan = curve_row 16 (codes "curve_c") 1
+profile_key_row key.CurveMagenta = curve_row 17 (codes "curve_m") 2
+profile_key_row key.CurveYellow = curve_row 18 (codes "curve_y") 3
 
 -- the keys of version 1, in the order of the table
 abbrev pub first_keys : List Key
@@ -100,15 +100,15 @@ keys_of Two = all_keys
 
 -- the key of a name, in a version
 abbrev pub key_named : Version → List ℕ → Option Key
-key_named version name = find (λ key. bytes_eq (row_of key).name name) (keys_of version)
+key_named version name = find (λ key. bytes_eq (profile_key_row key).name name) (keys_of version)
 
 -- the key at a place of the table
 abbrev pub key_at : ℕ → Option Key
-key_at place = find (λ key. (row_of key).place == place) all_keys
+key_at place = find (λ key. (profile_key_row key).place == place) all_keys
 
 abbrev pub name_of : Option Key → List ℕ
 name_of None = []
-name_of (Some key) = (row_of key).name
+name_of (Some key) = (profile_key_row key).name
 
 -- its name; empty at any other place
 abbrev pub name_at : ℕ → List ℕ
@@ -130,7 +130,7 @@ put_or_fault (Some p) = Ok p
 
 abbrev pub set_found : List ℕ → Printer → Option Key → Result Printer SetFault
 set_found value p None = Err UnknownKey
-set_found value p (Some key) = put_or_fault ((row_of key).put value p)
+set_found value p (Some key) = put_or_fault ((profile_key_row key).put value p)
 
 -- the profile with the value that a text gives the key of a name
 abbrev pub set_key : List ℕ → List ℕ → Printer → Result Printer SetFault

@@ -15,7 +15,7 @@ use Rattle.printer_profile.specs.declared.reading.TextCause.{TextCause}
 use Rattle.printer_profile.specs.declared.reading.TextCause.TheVariants.{BadHead, NotAscii, NoEquals, UnknownKey, RepeatedKey}
 use Rattle.printer_profile.specs.declared.reading.TextCause.TheVariants.{BadValue, Missing}
 use Rattle.printer_profile.specs.declared.reading.TextFault.{TextFault}
-use Rattle.printer_profile.specs.Keys.{all_keys, curve_keys, key_named, row_of, unset}
+use Rattle.printer_profile.specs.Keys.{all_keys, curve_keys, key_named, profile_key_row, unset}
 
 -- the first line of a version
 abbrev pub head_of : Version → List ℕ
@@ -30,7 +30,7 @@ version_of first = find (λ version. bytes_eq first (head_of version)) (One ∷ 
 
 -- a key's line, with its end
 abbrev pub key_line : Printer → Key → List ℕ
-key_line p key = (row_of key).name ++ codes "=" ++ (row_of key).text p ++ codes "\n"
+key_line p key = (profile_key_row key).name ++ codes "=" ++ (profile_key_row key).text p ++ codes "\n"
 
 -- The canonical text: the first line of version 2, and a line of each key in the order of the table.
 unfoldable pub profile_text_of : Printer → List ℕ
@@ -49,19 +49,19 @@ nothing = record { profile = unset; keys = replicate 18 false }
 
 -- whether a key was given
 abbrev pub is_given : Given → Key → Bool
-is_given given key = slice_index_or given.keys ((row_of key).place - 1) false
+is_given given key = slice_index_or given.keys ((profile_key_row key).place - 1) false
 
 -- with a value that a key takes
 abbrev pub with_value : Given → Key → Option Printer → Result Given TextCause
 with_value given key None = Err BadValue
 with_value given key (Some profile) =
-    Ok (record { profile = profile; keys = slice_set given.keys ((row_of key).place - 1) true })
+    Ok (record { profile = profile; keys = slice_set given.keys ((profile_key_row key).place - 1) true })
 
 -- with a value for the key of a name
 abbrev pub with_key : Given → List ℕ → Option Key → Result Given TextCause
 with_key given value None = Err UnknownKey
 with_key given value (Some key) =
-    if is_given given key then Err RepeatedKey else with_value given key ((row_of key).put value given.profile)
+    if is_given given key then Err RepeatedKey else with_value given key ((profile_key_row key).put value given.profile)
 
 -- with a line after the first
 unfoldable pub with_line : Version → Given → List ℕ → Result Given TextCause
@@ -88,12 +88,12 @@ with_lines version number given (line ∷ rest) = elim (with_line version given 
 
 -- the first required key that is absent
 abbrev pub missing : Given → Option Key
-missing given = find (λ key. (row_of key).required && not (is_given given key)) all_keys
+missing given = find (λ key. (profile_key_row key).required && not (is_given given key)) all_keys
 
 -- the profile, if no required key is absent
 abbrev pub profile_unless : Given → Option Key → Result Printer TextFault
 profile_unless given None = Ok given.profile
-profile_unless given (Some key) = Err (fault_at 0 (Missing (row_of key).place))
+profile_unless given (Some key) = Err (fault_at 0 (Missing (profile_key_row key).place))
 
 abbrev pub profile_given : Result Given TextFault → Result Printer TextFault
 profile_given (Err fault) = Err fault
@@ -116,7 +116,7 @@ profile_text text = profile_of_lines (lines text)
 
 -- whether a line has the key of a curve
 abbrev pub is_curve_line : List ℕ → Bool
-is_curve_line line = list_any (λ key. bytes_eq (row_of key).name (key_of line)) curve_keys
+is_curve_line line = list_any (λ key. bytes_eq (profile_key_row key).name (key_of line)) curve_keys
 
 -- The answer is an unknown key, in a line that has the key of a curve. The lines are those after the first.
 pub record StopsAtCurve (rest : List (List ℕ)) (answer : Result Printer TextFault) : Type 0 where

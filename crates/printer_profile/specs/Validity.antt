@@ -13,7 +13,7 @@ unfoldable pub greatest_divisor : ℕ → ℕ → ℕ → ℕ
 greatest_divisor zero a b = 0
 greatest_divisor (suc most) a b = if divides_both (suc most) a b then suc most else greatest_divisor most a b
 
--- the greatest common divisor of two numbers, of which the first is not 0
+-- the greatest common divisor of two numbers, of which the first is not 0: the number that `IsGcd` says
 abbrev pub gcd_of : ℕ → ℕ → ℕ
 gcd_of a b = greatest_divisor a a b
 
@@ -21,14 +21,14 @@ abbrev pub is_resolution : ℕ → Bool
 is_resolution dpi = (dpi == 360) || (dpi == 720)
 
 -- whether no number is below the one before
-abbrev pub is_rising : List ℕ → Bool
-is_rising [] = true
-is_rising (a ∷ []) = true
-is_rising (a ∷ b ∷ others) = not (nat_lt b a) && is_rising (b ∷ others)
+abbrev pub never_falls : List ℕ → Bool
+never_falls [] = true
+never_falls (a ∷ []) = true
+never_falls (a ∷ b ∷ others) = not (nat_lt b a) && never_falls (b ∷ others)
 
 -- whether a curve begins with 0 and does not fall
 abbrev pub is_curve : List ℕ → Bool
-is_curve curve = (slice_index curve 0 == 0) && is_rising curve
+is_curve curve = (slice_index curve 0 == 0) && never_falls curve
 
 -- the fault of the curve of an ink, with its test
 abbrev pub curve_test : List (List ℕ) → ℕ → Bool × ProfileFault
@@ -51,10 +51,10 @@ profile_tests p =
     ∷ curve_tests p.curves
 
 -- the fault of the first test that holds
-abbrev pub first_fault : List (Bool × ProfileFault) → Result (Unit {0}) ProfileFault
-first_fault [] = Ok tt
-first_fault (test ∷ tests) = if test.0 then Err test.1 else first_fault tests
+abbrev pub first_profile_fault : List (Bool × ProfileFault) → Result (Unit {0}) ProfileFault
+first_profile_fault [] = Ok tt
+first_profile_fault (test ∷ tests) = if test.0 then Err test.1 else first_profile_fault tests
 
 -- a profile's first fault, if it has one
 abbrev pub check : Printer → Result (Unit {0}) ProfileFault
-check p = first_fault (profile_tests p)
+check p = first_profile_fault (profile_tests p)

@@ -66,7 +66,7 @@ fn optional(place: u8, name: &'static str) -> Row
 }
 
 impl Key {
-    ghost use Rattle.printer_profile.specs.Keys.{key_at, row_of};
+    ghost use Rattle.printer_profile.specs.Keys.{key_at, profile_key_row};
 
     /// All keys, in the order of the table.
     pub(crate) const ALL: [Key; 18] = [
@@ -92,9 +92,9 @@ impl Key {
 
     // The key's row of the table.
     fn row(self) -> Row
-        ensures place { result.place ≡ (row_of self).place }
-        ensures name { result.name.now ≡ (row_of self).name }
-        ensures required { result.required ≡ (row_of self).required }
+        ensures place { result.place ≡ (profile_key_row self).place }
+        ensures name { result.name.now ≡ (profile_key_row self).name }
+        ensures required { result.required ≡ (profile_key_row self).required }
         ensures least { 1 ≤ result.place }
         ensures most { result.place ≤ 18 }
         ensures len { length result.name.now ≤ 11 }
@@ -123,7 +123,7 @@ impl Key {
 
     // The key's place in the table, counted from 1.
     pub(crate) fn place(self) -> u8
-        ensures place { result ≡ (row_of self).place }
+        ensures place { result ≡ (profile_key_row self).place }
         ensures least { 1 ≤ result }
         ensures most { result ≤ 18 }
     {
@@ -131,7 +131,7 @@ impl Key {
     }
 
     pub(crate) fn name(self) -> &'static str
-        ensures name { result.now ≡ (row_of self).name }
+        ensures name { result.now ≡ (profile_key_row self).name }
         ensures len { length result.now ≤ 11 }
     {
         self.row().name
@@ -139,7 +139,7 @@ impl Key {
 
     // Whether a text must have the key.
     pub(crate) fn is_required(self) -> bool
-        ensures { result ≡ (row_of self).required }
+        ensures { result ≡ (profile_key_row self).required }
     {
         self.row().required
     }

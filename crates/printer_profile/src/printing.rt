@@ -1,7 +1,7 @@
 //! A profile as a text.
 ghost use Rattle.arrayvec.specs.ArrayString.{array_string_len};
 ghost use Rattle.printer_profile.specs.Text.{key_line, profile_text_of};
-ghost use Rattle.printer_profile.specs.Keys.{row_of};
+ghost use Rattle.printer_profile.specs.Keys.{profile_key_row};
 ghost use Rattle.printer_profile.specs.Values.{curve_text};
 ghost use Rattle.std.specs.Fmt.{decimal};
 ghost use Rattle.std.specs.Prelude.{◌+◌, ◌++◌, ◌≡◌, ◌≤◌, OnErr, OnOk, [], ◌<◌, length};
@@ -41,7 +41,7 @@ fn push_curve(curve: &[u16; 17], out: &mut ArrayString<ROOM>)
 
 fn push_value(p: &Profile, key: Key, out: &mut ArrayString<ROOM>)
     requires { array_string_len out.old + 101 ≤ ROOM }
-    ensures bytes { out.new.bytes ≡ out.old.bytes ++ (row_of key).text p.now }
+    ensures bytes { out.new.bytes ≡ out.old.bytes ++ (profile_key_row key).text p.now }
     ensures len { array_string_len out.new ≤ array_string_len out.old + 101 }
 {
     match key {

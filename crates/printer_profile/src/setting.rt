@@ -16,12 +16,12 @@ pub enum SetFault {
 }
 
 impl Profile {
-    ghost use Rattle.printer_profile.specs.Keys.{row_of, set_key};
+    ghost use Rattle.printer_profile.specs.Keys.{profile_key_row, set_key};
 
     // The profile with the value of a key, if the key takes the value.
     #[tactic(auto, using(crate::proofs::CurveTexts::points_kept))]
     pub(crate) fn with_value(self, key: Key, text: &[u8]) -> Option<Profile>
-        ensures { result ≡ (row_of key).put text.now self }
+        ensures { result ≡ (profile_key_row key).put text.now self }
     {
         let mut profile = self;
         match key {

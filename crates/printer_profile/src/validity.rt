@@ -1,5 +1,5 @@
 //! Whether a profile makes sense.
-ghost use Rattle.printer_profile.specs.Validity.{curve_tests, first_fault, gcd_of, is_curve as is_curve_of, is_resolution as is_resolution_of};
+ghost use Rattle.printer_profile.specs.Validity.{curve_tests, first_profile_fault, gcd_of, is_curve as is_curve_of, is_resolution as is_resolution_of};
 ghost use Rattle.std.specs.Prelude.{◌≡◌, ◌<◌, not, position};
 
 use crate::fields::Profile;
@@ -68,7 +68,7 @@ fn broken_curve(curves: &[[u16; 17]; 4]) -> Option<usize>
 }
 
 fn check_curves(curves: &[[u16; 17]; 4]) -> Result<(), ProfileFault>
-    ensures { result ≡ first_fault (curve_tests curves.now) }
+    ensures { result ≡ first_profile_fault (curve_tests curves.now) }
 {
     match broken_curve(curves) {
         None => Ok(()),

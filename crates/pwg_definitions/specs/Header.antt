@@ -138,14 +138,14 @@ header_tests want h =
     ∷ []
 
 -- the fault of the first test that holds
-abbrev pub first_fault : List (Bool × HeaderFault) → Option HeaderFault
-first_fault [] = None
-first_fault (test ∷ tests) = if test.0 then Some test.1 else first_fault tests
+abbrev pub first_header_fault : List (Bool × HeaderFault) → Option HeaderFault
+first_header_fault [] = None
+first_header_fault (test ∷ tests) = if test.0 then Some test.1 else first_header_fault tests
 
 -- the form of a page of this kind
-abbrev pub form_of : Header → Option KindRow → Result PageForm HeaderFault
-form_of h None = Err fault.Kind
-form_of h (Some row) = Ok (record {
+abbrev pub header_form : Header → Option KindRow → Result PageForm HeaderFault
+header_form h None = Err fault.Kind
+header_form h (Some row) = Ok (record {
   width = h.width;
   height = h.height;
   kind = row.kind;
@@ -154,7 +154,7 @@ form_of h (Some row) = Ok (record {
 
 -- a header's first fault, or the form of its page
 abbrev pub check : Wanted → Header → Result PageForm HeaderFault
-check want h = elim (first_fault (header_tests want h)) [ None ↦ form_of h (kind_of h) | Some f ↦ Err f ]
+check want h = elim (first_header_fault (header_tests want h)) [ None ↦ header_form h (kind_of h) | Some f ↦ Err f ]
 
 -- The form of a page that is wanted: its size is within the bounds, and its lines are as long as its width takes.
 pub record IsWanted (want : Wanted) (form : PageForm) : Type 0 where

@@ -11,19 +11,19 @@ use Rattle.pwg_definitions.specs.declared.pages.Header.{Header}
 use Rattle.pwg_definitions.specs.declared.pages.Wanted.{Wanted}
 use Rattle.pwg_definitions.specs.declared.faults.HeaderFault.{HeaderFault}
 use Rattle.pwg_definitions.specs.Limits.{header_length}
-use Rattle.pwg_definitions.specs.Header.{IsWanted, KindRow, check, first_fault, form_of, has_kind, header_bytes, header_numbers, header_of}
+use Rattle.pwg_definitions.specs.Header.{IsWanted, KindRow, check, first_header_fault, has_kind, header_bytes, header_form, header_numbers, header_of}
 use Rattle.pwg_definitions.specs.Header.{header_tests, kind_of, kinds, line_bytes, pwg_raster, row_of, with_bytes, with_numbers}
 use Rattle.pwg_laws.proofs.KindRows.{IsKindRow, kind_row, named_by}
 
 -- ---- what an accepted header says
 
-first_fault-none : (tests : List (Bool × HeaderFault)) → first_fault tests ≡ None
+first_fault-none : (tests : List (Bool × HeaderFault)) → first_header_fault tests ≡ None
     → AllByRecursion (λ (t : Bool × HeaderFault). t.0 ≡ false) tests
 first_fault-none [] e = tt
 first_fault-none (test ∷ tests) e = by_test (first_fault-none tests) test.0 refl e
   where
-    by_test : (first_fault tests ≡ None → AllByRecursion (λ (t : Bool × HeaderFault). t.0 ≡ false) tests) → (b : Bool) → test.0 ≡ b
-        → (if b then Some test.1 else first_fault tests) ≡ None → AllByRecursion (λ (t : Bool × HeaderFault). t.0 ≡ false) (test ∷ tests)
+    by_test : (first_header_fault tests ≡ None → AllByRecursion (λ (t : Bool × HeaderFault). t.0 ≡ false) tests) → (b : Bool) → test.0 ≡ b
+        → (if b then Some test.1 else first_header_fault tests) ≡ None → AllByRecursion (λ (t : Bool × HeaderFault). t.0 ≡ false) (test ∷ tests)
     by_test after true is none = absurd (let never : Some test.1 ≡ None = none in cc)
     by_test after false is none = (is, after none)
 
@@ -48,11 +48,11 @@ find-among P test (first ∷ rows) row all e = by_test (find-among P test rows r
 
 -- the form of an accepted header is a wanted one
 pub check-wanted : (want : Wanted) (h : Header) (form : PageForm) → check want h ≡ Ok form → IsWanted want form
-check-wanted want h form accepted = by_fault (first_fault (header_tests want h)) refl accepted
+check-wanted want h form accepted = by_fault (first_header_fault (header_tests want h)) refl accepted
   where
     by_kind : AllByRecursion (λ (t : Bool × HeaderFault). t.0 ≡ false) (header_tests want h) → (o : Option KindRow) → kind_of h ≡ o
-        → form_of h o ≡ Ok form → IsWanted want form
-    by_kind passes None is e = absurd (let never : form_of h None ≡ Ok form = e in cc)
+        → header_form h o ≡ Ok form → IsWanted want form
+    by_kind passes None is e = absurd (let never : header_form h None ≡ Ok form = e in cc)
     by_kind passes (Some row) is e =
         let made : PageForm = record { width = h.width; height = h.height; kind = row.kind; bytes_per_line = h.bytes_per_line } in
         let same : Ok made ≡ Ok form = e in
@@ -72,8 +72,8 @@ check-wanted want h form accepted = by_fault (first_fault (header_tests want h))
         } in
         subst (IsWanted want) is_form wanted
 
-    by_fault : (o : Option HeaderFault) → first_fault (header_tests want h) ≡ o
-        → (elim o as (λ _. Result PageForm HeaderFault) [ None ↦ form_of h (kind_of h) | Some f ↦ Err f ]) ≡ Ok form → IsWanted want form
+    by_fault : (o : Option HeaderFault) → first_header_fault (header_tests want h) ≡ o
+        → (elim o as (λ _. Result PageForm HeaderFault) [ None ↦ header_form h (kind_of h) | Some f ↦ Err f ]) ≡ Ok form → IsWanted want form
     by_fault None is e = by_kind (first_fault-none (header_tests want h) is) (kind_of h) refl e
     by_fault (Some f) is e = absurd (let never : Err f ≡ Ok form = e in cc)
 
@@ -154,9 +154,9 @@ header_of-header_bytes form hdpi vdpi fitting =
     header_of-numbers form (row_of form.kind) hdpi vdpi fitting is.space_fits is.bits_fit is.pixel_fits
 
 first_fault-passes : (tests : List (Bool × HeaderFault)) → AllByRecursion (λ (t : Bool × HeaderFault). t.0 ≡ false) tests
-    → first_fault tests ≡ None
+    → first_header_fault tests ≡ None
 first_fault-passes [] all = refl
-first_fault-passes (test ∷ tests) all = ap (λ b. if b then Some test.1 else first_fault tests) all.0 ∙ first_fault-passes tests all.1
+first_fault-passes (test ∷ tests) all = ap (λ b. if b then Some test.1 else first_header_fault tests) all.0 ∙ first_fault-passes tests all.1
 
 check-written : (want : Wanted) (form : PageForm) → IsWanted want form
     → check want (named_by (row_of form.kind) (written_fields form want.hdpi want.vdpi)) ≡ Ok form
@@ -181,9 +181,9 @@ check-written want form wanted =
         ),
       ),
     ) in
-    ap (λ (o : Option HeaderFault). elim o as (λ _. Result PageForm HeaderFault) [ None ↦ form_of h (kind_of h) | Some f ↦ Err f ])
+    ap (λ (o : Option HeaderFault). elim o as (λ _. Result PageForm HeaderFault) [ None ↦ header_form h (kind_of h) | Some f ↦ Err f ])
     (first_fault-passes (header_tests want h) passes)
-    ∙ ap (form_of h) named
+    ∙ ap (header_form h) named
     ∙ ap (λ (kind : Kind). let made : Result PageForm HeaderFault = Ok (record form { kind = kind }) in made) (kind_row form.kind).kind_is
 
 -- A written header is accepted, and its form is the one that was written.

@@ -8,7 +8,7 @@ use Rattle.pwg_definitions.specs.Header.{KindRow}
 use Rattle.pwg_definitions.specs.Groups.{IsPacket, Packet, SpellsGroup, SpellsLine, copies, line_gives, packet_gives, packet_units}
 use Rattle.pwg_definitions.specs.Groups.Packet.{Run, Literal}
 use Rattle.pwg_lines.specs.Canonical.{as_they_are, canonical, copies_at, next_packet, packets_from, unequal_at}
-use Rattle.pwg_lines.proofs.Writing.{IsCounted, copies_at-front, counted, one_unit}
+use Rattle.pwg_lines.proofs.Writing.{IsCounted, copies_at-front, is_counted, one_unit}
 
 -- The first packet of a line of whole units: it fits the line, and gives the bytes up to the rest.
 record IsFront (row : KindRow) (units : ℕ) (line : List ℕ) (p : Packet) : Type 0 where
@@ -65,7 +65,7 @@ front-next : (row : KindRow) (units : ℕ) (line : List ℕ) → 1 ≤ row.unit 
 front-next row units line unit whole one = by_run (nat_lt 1 (copies_at 128 (take row.unit line) line)) refl
   where
     counts : IsCounted row.unit line units
-    counts = counted row.unit line units unit whole one
+    counts = is_counted row.unit line units unit whole one
 
     by_run : (b : Bool) → nat_lt 1 (copies_at 128 (take row.unit line) line) ≡ b → IsFront row units line
         (if b then Run (copies_at 128 (take row.unit line) line) (take row.unit line)

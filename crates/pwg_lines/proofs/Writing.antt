@@ -12,7 +12,7 @@ use Rattle.pwg_lines.specs.Canonical.{canonical, copies_at, next_packet, packets
 
 -- ---- counting units
 
--- This many copies of the unit are counted.
+-- This many copies of the unit are is_counted.
 pub record CopiesSoFar (most : ℕ) (unit line : List ℕ) (count : ℕ) (rest : List ℕ) : Type 0 where
   pub within : count ≤ most
   pub is : copies_at most unit line ≡ count + copies_at (most - count) unit rest
@@ -44,7 +44,7 @@ pub copies_end : (most : ℕ) (unit line : List ℕ) (count : ℕ) (rest : List 
     → most ≤ count → count ≡ copies_at most unit line
 copies_end most unit line count rest so_far all = omega (arith, so_far.is, copies-none (most - count) unit rest (omega arith))
 
--- This many unequal units are counted, and the rest is whole units.
+-- This many unequal units are is_counted, and the rest is whole units.
 pub record UnequalSoFar (most unit : ℕ) (line : List ℕ) (count : ℕ) (rest : List ℕ) : Type 0 where
   pub within : count ≤ most
   pub units : ℕ
@@ -209,8 +209,8 @@ two_equal zero unit line some one sized none = absurd (omega arith)
 two_equal (suc most) unit [] some one sized none = absurd (omega arith)
 two_equal (suc most) unit (b ∷ line) some one sized none = grind arith
 
-pub counted : (unit : ℕ) (line : List ℕ) (units : ℕ) → 1 ≤ unit → length line ≡ units * unit → 0 < length line → IsCounted unit line units
-counted unit line units some whole one = record {
+pub is_counted : (unit : ℕ) (line : List ℕ) (units : ℕ) → 1 ≤ unit → length line ≡ units * unit → 0 < length line → IsCounted unit line units
+is_counted unit line units some whole one = record {
   few_equal = copies_at-most 128 (take unit line) line;
   equal_within =
       let within : copies_at 128 (take unit line) line * unit ≤ units * unit =
@@ -249,7 +249,7 @@ pub record IsCountedLine (unit : ℕ) (line : List ℕ) : Type 0 where
 pub counted_line : (unit : ℕ) (line : List ℕ) → 1 ≤ unit → length line % unit ≡ 0 → 0 < length line → IsCountedLine unit line
 counted_line unit line some whole one =
     let units_are : length line ≡ length line / unit * unit = units_in unit (length line) some whole in
-    let counts : IsCounted unit line (length line / unit) = counted unit line (length line / unit) some units_are one in
+    let counts : IsCounted unit line (length line / unit) = is_counted unit line (length line / unit) some units_are one in
     record {
       few_equal = counts.few_equal;
       equal_bytes = omega (arith, units_are, mul-le-mul_right unit counts.equal_within);

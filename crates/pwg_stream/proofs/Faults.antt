@@ -14,7 +14,7 @@ use Rattle.pwg_stream.specs.declared.groups.GroupStop.{GroupStop}
 use Rattle.pwg_stream.specs.declared.groups.GroupStop.TheVariants as fault
 use Rattle.pwg_stream.specs.declared.reader.PageReader.{PageReader}
 use Rattle.pwg_stream.specs.Groups.{IsBadGroup, IsNoGroup, OnNoGroup}
-use Rattle.pwg_stream.specs.Reading.{HasLineFault, form_in, form_of, group_of, lines_left_in, lines_left_of, lines_of, text_of}
+use Rattle.pwg_stream.specs.Reading.{HasLineFault, current_form, form_in, group_of, lines_left_in, lines_left_of, lines_of, text_of}
 use Rattle.pwg_stream.specs.Stops.{OnInput, line_stop}
 
 stop_here : (form : PageForm) (left line : ℕ) (text : List ℕ) (why : InputCause) → 0 < left → line + left ≡ form.height + 1
@@ -49,7 +49,7 @@ pub line_fault : (reader : PageReader) (now : LineReader) (before : Option (List
 line_fault reader now before line fault.Read is some place found = tt
 line_fault reader now before line (fault.Input why) is some place found =
     let left_is : lines_left_of reader ≡ lines.lines_left_of now = ap lines_left_in is in
-    let form_is : form_of reader ≡ Some (lines.form_of now) = ap form_in is in
+    let form_is : current_form reader ≡ Some (lines.form_of now) = ap form_in is in
     record {
       page_is = refl;
       line_is = λ form e.

@@ -24,7 +24,7 @@ use Rattle.pwg_stream.specs.declared.stops.StreamStop.TheVariants as stop
 use Rattle.pwg_stream.specs.Groups.{TakesPart}
 use Rattle.pwg_stream.specs.Reading.{form_in, group_of, lines_left_in, text_of}
 use Rattle.pwg_stream.specs.Stops.{line_stop}
-use Rattle.pwg_stream.specs.Taken.{MoreMayMend, TakesAllPages, TakesFewer, TakesNoGroup, TakesNoPage}
+use Rattle.pwg_stream.specs.Taken.{StreamMayGoOn, TakesAllPages, TakesFewer, TakesNoGroup, TakesNoPage}
 use Rattle.pwg_stream.proofs.Faults.{same_form}
 use Rattle.pwg_stream.proofs.Grouping.{IsFed}
 use Rattle.pwg_stream.proofs.Prefixes.{no_page}
@@ -102,7 +102,7 @@ pub takes_none : (want : Wanted) (pages : ℕ) (before left : Option (List ℕ))
     → Keeps before (text_behind unread left) → length unread < 1 → TakesNoPage want pages before left
 takes_none want pages before left unread kept few =
     let is = no_pages want (most_pages - pages) (pages + 1) in
-    let P : Stream → Type 0 = λ s. MoreMayMend s.end in
+    let P : Stream → Type 0 = λ s. StreamMayGoOn s.end in
     let Q : List ℕ → Type 0 = Consumes before left in record {
       bytes = [];
       taken = subst Q (none_of unread few) (kept_taken before left unread kept);
@@ -119,7 +119,7 @@ takes_short_header want pages before left (b ∷ bytes) kept few short =
     let is = no_page want pages text cause.Truncated few (omega arith)
     (ap (λ c. if c then Broken 0 cause.Truncated else page_behind (check want (header_of (take header_length text)))
     (drop header_length text)) (lt-ltb _ _ short)) in
-    let P : Stream → Type 0 = λ s. MoreMayMend s.end in record {
+    let P : Stream → Type 0 = λ s. StreamMayGoOn s.end in record {
       bytes = text;
       taken = kept_taken before left text kept;
       none = ap (λ (s : Stream). s.pages) is;

@@ -31,8 +31,8 @@ form_in None = None
 form_in (Some reader) = Some (lines.form_of reader)
 
 -- the form of the current page
-abbrev pub form_of : PageReader → Option PageForm
-form_of reader = form_in reader.lines
+abbrev pub current_form : PageReader → Option PageForm
+current_form reader = form_in reader.lines
 
 -- how many of its lines are not yet given
 abbrev pub lines_left_in : Option LineReader → ℕ
@@ -75,7 +75,7 @@ pub record BeginsPage (want : Wanted) (old new : PageReader) (before now : Optio
   pub header : GivesHeader want (text_of old before) (text_of new now) form
   pub page : page_of new ≡ page_of old + 1
   pub last : page_of new ≤ most_pages
-  pub form_is : form_of new ≡ Some form
+  pub form_is : current_form new ≡ Some form
   pub lines : lines_left_of new ≡ form.height
   pub unended : has_ended new ≡ false
 
@@ -84,16 +84,16 @@ pub record GivesLines (old new : PageReader) (before now : Option (List ℕ)) (r
   pub some : 1 ≤ repeats
   pub fall : lines_left_of new + repeats ≡ lines_left_of old
   pub page : page_of new ≡ page_of old
-  pub form_is : form_of new ≡ form_of old
+  pub form_is : current_form new ≡ current_form old
   pub unended : has_ended new ≡ has_ended old
   pub bytes : List ℕ
   pub used : Consumes (text_of old before) (text_of new now) bytes
-  pub group : (form : PageForm) → form_of old ≡ Some form → (rest : List ℕ)
+  pub group : (form : PageForm) → current_form old ≡ Some form → (rest : List ℕ)
       → group_of form (lines_left_of old) (bytes ++ rest) ≡ Group repeats (line_of new) rest
 
 -- The text has this fault in the current page, at the first line that is not yet given.
 pub record HasLineFault (reader : PageReader) (before : Option (List ℕ)) (page line : ℕ) (cause : InputCause) : Type 0 where
   pub page_is : page ≡ page_of reader
-  pub line_is : (form : PageForm) → form_of reader ≡ Some form → line + lines_left_of reader ≡ form.height + 1
-  pub fault : (form : PageForm) → form_of reader ≡ Some form
+  pub line_is : (form : PageForm) → current_form reader ≡ Some form → line + lines_left_of reader ≡ form.height + 1
+  pub fault : (form : PageForm) → current_form reader ≡ Some form
       → IfSome (text_of reader before) (λ text. lines_of form (lines_left_of reader) text ≡ Stop line cause)

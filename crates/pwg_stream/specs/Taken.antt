@@ -10,12 +10,12 @@ use Rattle.pwg_definitions.specs.Limits.{most_pages}
 use Rattle.pwg_definitions.specs.Stream.{Page, StreamEnd, pages_from, stream}
 use Rattle.pwg_definitions.specs.Stream.StreamEnd.{Done, Fault}
 use Rattle.pwg_stream.specs.declared.reader.PageReader.{PageReader}
-use Rattle.pwg_stream.specs.Reading.{form_of, group_of, lines_left_of, text_of}
+use Rattle.pwg_stream.specs.Reading.{current_form, group_of, lines_left_of, text_of}
 
 -- More bytes could mend this end of a stream: it is after a whole page, or inside of one.
-abbrev pub MoreMayMend : StreamEnd → Type 0
-MoreMayMend Done = Unit {0}
-MoreMayMend (Fault page line why) = why ≡ cause.Truncated
+abbrev pub StreamMayGoOn : StreamEnd → Type 0
+StreamMayGoOn Done = Unit {0}
+StreamMayGoOn (Fault page line why) = why ≡ cause.Truncated
 
 -- The bytes that were taken are a stream of exactly these pages. Its end is one that more bytes could mend, or there
 -- are fewer than four bytes where the sync word is to stand.
@@ -23,7 +23,7 @@ pub record TakesAllPages (want : Wanted) (before left : Option (List ℕ)) (page
   pub bytes : List ℕ
   pub taken : Consumes before left bytes
   pub are : (stream want bytes).pages ≡ pages
-  pub end : MoreMayMend (stream want bytes).end ⊎ (length bytes < 4)
+  pub end : StreamMayGoOn (stream want bytes).end ⊎ (length bytes < 4)
 
 -- Fewer bytes than this many were taken.
 pub record TakesFewer (many : ℕ) (before left : Option (List ℕ)) : Type 0 where
@@ -36,10 +36,10 @@ pub record TakesNoPage (want : Wanted) (pages : ℕ) (before left : Option (List
   pub bytes : List ℕ
   pub taken : Consumes before left bytes
   pub none : (pages_from want (most_pages - pages) (pages + 1) bytes).pages ≡ []
-  pub end : MoreMayMend (pages_from want (most_pages - pages) (pages + 1) bytes).end
+  pub end : StreamMayGoOn (pages_from want (most_pages - pages) (pages + 1) bytes).end
 
 -- The bytes that were taken are a part of the next group of the current page, without a fault.
 pub record TakesNoGroup (reader : PageReader) (before left : Option (List ℕ)) : Type 0 where
   pub bytes : List ℕ
   pub taken : Consumes (text_of reader before) left bytes
-  pub part : (form : PageForm) → form_of reader ≡ Some form → group_of form (lines_left_of reader) bytes ≡ Part
+  pub part : (form : PageForm) → current_form reader ≡ Some form → group_of form (lines_left_of reader) bytes ≡ Part

@@ -44,7 +44,7 @@ fn stop_at(page: u32, line: u32, fault: GroupStop) -> StreamStop
 }
 
 impl PageReader {
-    ghost use Rattle.pwg_stream.specs.Reading.{BeginsPage, GivesLines, HasLineFault, form_of, has_ended, line_of};
+    ghost use Rattle.pwg_stream.specs.Reading.{BeginsPage, GivesLines, HasLineFault, current_form, has_ended, line_of};
     ghost use Rattle.pwg_stream.specs.Reading.{lines_left_of, page_of, stop_of, text_of};
     ghost use Rattle.pwg_stream.specs.Stops.{OnInput};
     ghost use Rattle.pwg_stream.specs.Taken.{TakesAllPages, TakesFewer, TakesNoGroup, TakesNoPage};
@@ -212,7 +212,7 @@ impl PageReader {
         requires lowest { 1 ≤ form.height }
         requires tallest { form.height ≤ most_rows }
         requires bytes { form.bytes_per_line ≡ line_bytes form.width (row_of form.kind).bits_per_pixel }
-        ensures form { OnOk result (form_of self.new ≡ Some form) }
+        ensures form { OnOk result (current_form self.new ≡ Some form) }
         ensures lines { OnOk result (lines_left_of self.new ≡ form.height) }
         ensures left { OnErr result (lines_left_of self.new ≡ lines_left_of self.old) }
         ensures unread { self.new.unread ≡ self.old.unread }
@@ -284,7 +284,7 @@ impl PageReader {
     /// The bytes of the line that `next_line` gave, until the reader is called again to read.
     pub fn line(&self) -> &[u8]
         ensures line { result.now ≡ line_of self.now }
-        ensures sized { (form : PageForm) → form_of self.now ≡ Some form → length result.now ≡ form.bytes_per_line }
+        ensures sized { (form : PageForm) → current_form self.now ≡ Some form → length result.now ≡ form.bytes_per_line }
     {
         match &self.lines {
             Some(lines) => lines.line(),

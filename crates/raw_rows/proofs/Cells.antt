@@ -9,10 +9,10 @@ use Rattle.raw_rows.specs.Raw.{amount_in, amounts_in, table_of}
 use Rattle.raw_rows.specs.declared.kept.RawRows.{RawRows}
 
 -- a value of each of some numbers
-counted : (f : ℕ → ℕ) (n many k : ℕ) → k < many → get_or (map f (count_from n many)) k 0 ≡ f (n + k)
-counted f n zero k low = absurd (omega arith)
-counted f n (suc many) zero low = ap f (omega arith)
-counted f n (suc many) (suc k) low = counted f (n + 1) many k (omega arith) ∙ ap f (omega arith)
+counted_at : (f : ℕ → ℕ) (n many k : ℕ) → k < many → get_or (map f (count_from n many)) k 0 ≡ f (n + k)
+counted_at f n zero k low = absurd (omega arith)
+counted_at f n (suc many) zero low = ap f (omega arith)
+counted_at f n (suc many) (suc k) low = counted_at f (n + 1) many k (omega arith) ∙ ap f (omega arith)
 
 inside : (inks rows width i y x : ℕ) → i < inks → y < rows → x < width → (i * rows + y) * width + x < inks * rows * width
 inside inks rows width i y x ink row column = grind arith
@@ -27,7 +27,7 @@ amount_is raw i y x ink row column =
     let cell = λ (n : ℕ). amount_in raw (n / width / raw.rows) (n / width % raw.rows) (n % width) in
     get_or-take width (drop (line * width) (amounts_in raw)) x 0 column
     ∙ get_or-drop (line * width) (amounts_in raw) x 0
-    ∙ counted cell 0 (inks * raw.rows * width) (line * width + x) (inside inks raw.rows width i y x ink row column)
+    ∙ counted_at cell 0 (inks * raw.rows * width) (line * width + x) (inside inks raw.rows width i y x ink row column)
     ∙ ap cell (zero-add (line * width + x))
     ∙ ap (λ n. amount_in raw (n / raw.rows) (n % raw.rows) ((line * width + x) % width)) (div-mul-add line width x column)
     ∙ ap (λ n. amount_in raw (line / raw.rows) (line % raw.rows) n) (mod-mul-add line width x column)

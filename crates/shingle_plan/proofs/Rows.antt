@@ -20,8 +20,8 @@ pub record Lands (n pitch height t i y : ℕ) : Type 0 where
 pub lands : (n pitch height t i y : ℕ) → shingle_row n pitch height t i ≡ Some y → Lands n pitch height t i y
 lands n pitch height t i y e = grind (arith, leb-true, ltb-true)
 
-row_of : (n pitch height t i y : ℕ) → Lands n pitch height t i y → shingle_row n pitch height t i ≡ Some y
-row_of n pitch height t i y s = grind (arith, and_from, le-leb, lt-ltb)
+landed_row : (n pitch height t i y : ℕ) → Lands n pitch height t i y → shingle_row n pitch height t i ≡ Some y
+landed_row n pitch height t i y s = grind (arith, and_from, le-leb, lt-ltb)
 
 -- ---- how often one firing is on a row
 
@@ -63,4 +63,4 @@ pub meets : (test : Shingle → Bool) (n pitch height y tall z t i j gap : ℕ) 
     → rows_above n pitch + y ≡ (half n - 1) * pitch + z + gap
     → times test n pitch height t i ≡ weave_times (half n) pitch tall z t j
 meets test n pitch height y tall z t i j gap only low under on passes nozzle row =
-    grind (arith, common_steps, cases_eq, count-firing, count-hit, count-miss, false_from_ne_true, lands, row_of, row_under, same-above, same-place, stands_on)
+    grind (arith, common_steps, cases_eq, count-firing, count-hit, count-miss, false_from_ne_true, lands, landed_row, row_under, same-above, same-place, stands_on)

@@ -7,7 +7,7 @@ use Rattle.buffered_bytes.specs.Outside.{Outside}
 use Rattle.weave_base.proofs.Parting.{part_behind, part_of_front}
 use Rattle.weave_base.specs.Causes.{HasCause}
 use Rattle.weave_base.specs.Parts.{AppendsPart}
-use Rattle.spool_core.specs.Answers.{Tells, report_line, report_lines}
+use Rattle.spool_core.specs.Answers.{IsReported, report_line, report_lines}
 use Rattle.spool_core.specs.declared.report.Ran.{Ran}
 use Rattle.spool_core.proofs.Lists.{cut_at, flat_map-append, more_taken, rose_later}
 
@@ -47,7 +47,7 @@ all_told (Err e) is ok fine = absurd cc
 -- all lines were written, and then the last one, or a part of it
 pub tells_both : {T E : Type 0} (r : Result T E) (err : Outside) (mid : Option (List ℕ)) (faults : ℕ) (lines line bytes : List ℕ) → bytes ≡ line
     → Appends err.before mid lines → err.faults_before ≤ faults → OnOk r (Appends mid err.now bytes)
-    → OnErr r (AppendsPart mid err.now bytes) → HasCause faults err.faults_now r → Tells err (lines ++ line)
+    → OnErr r (AppendsPart mid err.now bytes) → HasCause faults err.faults_now r → IsReported err (lines ++ line)
 tells_both (Ok x) err mid faults lines line bytes is first later ok part cause =
     inl (Appends-trans err.before mid err.now lines line first (subst (λ bs. Appends mid err.now bs) is ok))
 tells_both (Err e) err mid faults lines line bytes is first later ok part cause =

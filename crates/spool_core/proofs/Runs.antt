@@ -21,7 +21,7 @@ use Rattle.spool_words.specs.declared.faults.SpoolFault.{SpoolFault}
 use Rattle.spool_words.specs.declared.reading.SpoolRequest.{SpoolRequest}
 use Rattle.weave_base.specs.Causes.{Rose}
 use Rattle.spool_core.specs.Files.{AreFiles, FilesOutcome}
-use Rattle.spool_core.specs.Outcome.{HasPlainStatus, PrintingOutcome, PrintsNone, ProfileOutcome, RequestOutcome, SpoolOutcome, SpoolOutside, SumsUp, WriteStopped, at_call, at_return}
+use Rattle.spool_core.specs.Outcome.{AnswersJobs, HasPlainStatus, PrintingOutcome, PrintsNone, ProfileOutcome, RequestOutcome, SpoolOutcome, SpoolOutside, WriteStopped, at_call, at_return}
 use Rattle.spool_core.specs.Prepared.{AreFew}
 use Rattle.spool_core.specs.Printed.{AreDone, Between, PrintsJobs}
 use Rattle.spool_core.specs.Stops.{profile_answer}
@@ -38,7 +38,7 @@ prints_none held faults meters done none uncounted = record { none = none; unwri
 -- all jobs ran
 pub all_ran : (p : Printer) (k : Table) (sent : List (List Stream)) (jobs : List SpoolJob) (out : Outside) (meters : Meters) (done : List Ran)
     (a : SpoolAnswer) → AreSent (sent_by sent) jobs → PrintsJobs p k jobs done (at_call out meters) (at_return out meters)
-    → All (λ ran. ran.status ≢ 5) done → SumsUp done a → PrintingOutcome p k sent out meters done a
+    → All (λ ran. ran.status ≢ 5) done → AnswersJobs done a → PrintingOutcome p k sent out meters done a
 all_ran p k sent jobs out meters done answer.Done are prints fine sums = (record { jobs = jobs; are = are; prints = prints }, sums)
 all_ran p k sent jobs out meters done (answer.Failed count) are prints fine sums = (record { jobs = jobs; are = are; prints = prints }, sums)
 all_ran p k sent jobs out meters done answer.Memory are prints fine sums = inr (record { jobs = jobs; are = are; prints = prints }, fine, sums)
@@ -114,7 +114,7 @@ are_few words sent request e within =
 pub came_to : (r : Result (Unit {0}) SpoolAnswer) (p : Printer) (k : Table) (sent : List (List Stream)) (jobs : List SpoolJob) (out : Outside)
     (meters : Meters) (done : List Ran) (a : SpoolAnswer) (count : ℕ)
     → AreDone p k jobs done (at_call out meters) (at_return out meters)
-    → OnOk r (length jobs ≡ count) → count ≡ count_sent sent → OnOk r (All (λ ran. ran.status ≢ 5) done) → OnOk r (SumsUp done a)
+    → OnOk r (length jobs ≡ count) → count ≡ count_sent sent → OnOk r (All (λ ran. ran.status ≢ 5) done) → OnOk r (AnswersJobs done a)
     → IfErr r (λ stop. a ≡ stop) → IfErr r (WriteStopped done) → OnErr r (HasRisen out)
     → (rest : List SpoolJob) × AreSent (sent_by sent) (jobs ++ rest)
     → (length jobs ≡ count_sent sent → AreSent (sent_by sent) jobs)

@@ -17,7 +17,7 @@ use Rattle.spool_words.specs.Meaning.{names_of, profile_named}
 use Rattle.spool_words.specs.declared.faults.SpoolFault.{SpoolFault}
 use Rattle.spool_words.specs.declared.reading.SpoolRequest.{SpoolRequest}
 use Rattle.weave_base.specs.Shelf.{NamedText, text_named}
-use Rattle.spool_core.specs.Answers.{Tells, spool_status, spool_text}
+use Rattle.spool_core.specs.Answers.{IsReported, spool_status, spool_text}
 use Rattle.spool_core.specs.Files.{AreFiles, FilesOutcome, HasStreams, IsFile, IsRefusedFile, RefusesFile, bytes_in, joined, most_next}
 use Rattle.spool_core.specs.Outcome.{PrintingOutcome, ProfileOutcome, RequestOutcome, SpoolOutcome, SpoolOutside, WithFiles, WithoutFiles, at_call, at_return, is_refused}
 use Rattle.spool_core.specs.Printed.{Between, PrintsEvery, PrintsJobs}
@@ -222,7 +222,7 @@ roomy_jobs {done} o q p l k streams sent same kernel order every jobs plain room
 
 -- what a run promises, by its answer
 pub promised : {words : List (List ℕ)} {o : SpoolOutside} {err : Outside} {status : ℕ} {done : List Ran} (a : SpoolAnswer) → SpoolOutcome words o done a
-    → status ≡ spool_status a → Tells err (spool_text done a) → SpoolPromises words o err status a done
+    → status ≡ spool_status a → IsReported err (spool_text done a) → SpoolPromises words o err status a done
 promised {words} {o} {err} {status} {done} a outcome is told =
     let P : ℕ → Type 0 = λ s. (s ≡ 0) ⊎ (s ≡ 7) in
     record {

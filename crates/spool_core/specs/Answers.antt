@@ -67,5 +67,5 @@ abbrev pub spool_text : List Ran → SpoolAnswer → List ℕ
 spool_text done a = report_lines done ++ spool_line a
 
 -- the error sink got all these bytes, or a proper prefix of them, and its count of faults rose
-abbrev pub Tells : Outside → List ℕ → Type 0
-Tells err bytes = Appends err.before err.now bytes ⊎ (HasRisen err × AppendsPart err.before err.now bytes)
+abbrev pub IsReported : Outside → List ℕ → Type 0
+IsReported err bytes = Appends err.before err.now bytes ⊎ (HasRisen err × AppendsPart err.before err.now bytes)

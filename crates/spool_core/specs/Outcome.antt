@@ -61,26 +61,26 @@ pub record HasPlainStatus (ran : Ran) : Type 0 where
   pub is : (ran.status ≡ 0) ⊎ ((ran.status ≡ 3) ⊎ ((ran.status ≡ 6) ⊎ (ran.status ≡ 7)))
 
 -- the answer to jobs of which none failed in a write
-abbrev pub SumsUp : List Ran → SpoolAnswer → Type 0
-SumsUp done answer.Done = All (λ ran. ran.status ≡ 0) done
-SumsUp done (answer.Failed count) =
+abbrev pub AnswersJobs : List Ran → SpoolAnswer → Type 0
+AnswersJobs done answer.Done = All (λ ran. ran.status ≡ 0) done
+AnswersJobs done (answer.Failed count) =
     All (λ ran. (ran.status ≢ 5) × (ran.status ≢ 7)) done × (1 ≤ count) × (count ≡ count_by is_refused done)
-SumsUp done answer.Memory = 1 ≤ count_by (λ (ran : Ran). ran.status == 7) done
-SumsUp done other = ⊥
+AnswersJobs done answer.Memory = 1 ≤ count_by (λ (ran : Ran). ran.status == 7) done
+AnswersJobs done other = ⊥
 
 -- The answer after all files were read: what was printed of them.
 abbrev pub PrintingOutcome : Printer → Table → List (List Stream) → Outside → Meters → List Ran → SpoolAnswer → Type 0
 PrintingOutcome p k sent out meters done answer.Done =
-    PrintsEvery p k sent done (at_call out meters) (at_return out meters) × SumsUp done answer.Done
+    PrintsEvery p k sent done (at_call out meters) (at_return out meters) × AnswersJobs done answer.Done
 PrintingOutcome p k sent out meters done (answer.Failed count) =
-    PrintsEvery p k sent done (at_call out meters) (at_return out meters) × SumsUp done (answer.Failed count)
+    PrintsEvery p k sent done (at_call out meters) (at_return out meters) × AnswersJobs done (answer.Failed count)
 PrintingOutcome p k sent out meters done (answer.Write sender job page) =
     HasRisen out × PrintsFirst p k sent done (at_call out meters) (at_return out meters)
     × StopsAtWrite done sender job page
 PrintingOutcome p k sent out meters done answer.Memory =
     PrintsNone out meters done
     ⊎ (PrintsEvery p k sent done (at_call out meters) (at_return out meters) × All (λ ran. ran.status ≢ 5) done
-    × SumsUp done answer.Memory)
+    × AnswersJobs done answer.Memory)
 PrintingOutcome p k sent out meters done other = ⊥
 
 -- why there is no profile of this name, and the answer

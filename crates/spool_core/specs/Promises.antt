@@ -10,7 +10,7 @@ use Rattle.printer_definitions.specs.Printer.{Printer}
 use Rattle.pwg_definitions.specs.Stream.{Page, stream}
 use Rattle.pwg_definitions.specs.Stream.StreamEnd.{Done}
 use Rattle.separation_definitions.specs.Windows.{wanted_by}
-use Rattle.spool_core.specs.Answers.{Tells, spool_status, spool_text}
+use Rattle.spool_core.specs.Answers.{IsReported, spool_status, spool_text}
 use Rattle.spool_core.specs.Files.{AreFiles, joined}
 use Rattle.spool_core.specs.Outcome.{SpoolOutcome, SpoolOutside}
 use Rattle.spool_core.specs.declared.answer.SpoolAnswer.{SpoolAnswer}
@@ -53,7 +53,7 @@ pub record SpoolPromises (words : List (List ℕ)) (o : SpoolOutside) (err : Out
   pub outcome : SpoolOutcome words o done answer
   pub status_is : status ≡ spool_status answer
   -- the error sink got all lines, or a proper prefix of them, and its count of faults rose
-  pub told : Tells err (spool_text done answer)
+  pub told : IsReported err (spool_text done answer)
   -- a valid run prints every job, unless something outside fails, a page goes past a cap, or memory runs out
   pub valid : IsValidSpool words o → ((files : List NamedText) × (o.shelf.told ≡ Some files)) → (HasFailed o.shelf → ⊥) → IsCalm o.out
       → All (λ ran. ran.status ≢ 6) done → (status ≡ 0) ⊎ (status ≡ 7)

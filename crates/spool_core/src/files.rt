@@ -113,7 +113,7 @@ fn read_sender<F: Shelf>(
 
 /// Reads the files of all senders, in the order of senders and their names. Each has at most `MOST_FILE` bytes, and all
 /// together have at most `MOST_FILES`. `Err` is the answer of a run that goes no further: the first file that is
-/// refused or whose read fails, or want of memory.
+/// refused or whose read fails, or out of memory.
 pub fn read_files<F: Shelf>(
     alloc: Global,
     words: &Words,

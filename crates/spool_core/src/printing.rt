@@ -1,6 +1,6 @@
 //! The printer: it takes jobs from the spool, and prints each.
 ghost use Rattle.diffusion_kernel.specs.Tables.{table_of};
-ghost use Rattle.spool_core.specs.Outcome.{HasPlainStatus, SumsUp, WriteStopped};
+ghost use Rattle.spool_core.specs.Outcome.{AnswersJobs, HasPlainStatus, WriteStopped};
 ghost use Rattle.spool_core.specs.Prepared.{CanPrintWoven};
 ghost use Rattle.spool_core.specs.Printed.{AreDone, PrintsStream, between};
 ghost use Rattle.spool_queue.specs.Passes.{IsPrinterOf, senders_of, taken_of};
@@ -109,7 +109,7 @@ const OUT_OF_MEMORY: u8 = 7;
 fn sum_up(done: &[Ran]) -> SpoolAnswer
     requires few { length done.now < 2 ^ 31 }
     requires plain { All HasPlainStatus done.now }
-    ensures { SumsUp done.now result }
+    ensures { AnswersJobs done.now result }
 {
     if done.iter().any(|ran| ran.status == OUT_OF_MEMORY) {
         return SpoolAnswer::Memory;
@@ -129,7 +129,7 @@ fn sum_up(done: &[Ran]) -> SpoolAnswer
 pub fn answer_for(printed: Result<(), SpoolAnswer>, done: &[Ran]) -> SpoolAnswer
     requires few { length done.now < 2 ^ 31 }
     requires plain { OnOk printed (All HasPlainStatus done.now) }
-    ensures ran { OnOk printed (SumsUp done.now result) }
+    ensures ran { OnOk printed (AnswersJobs done.now result) }
     ensures stopped { IfErr printed (λ stop. result ≡ stop) }
 {
     match printed {

@@ -1,6 +1,6 @@
 //! The report of a run.
 ghost use Rattle.buffered_bytes.specs.Outside.{outside_of};
-ghost use Rattle.spool_core.specs.Answers.{Tells, report_line, report_lines, spool_text};
+ghost use Rattle.spool_core.specs.Answers.{IsReported, report_line, report_lines, spool_text};
 ghost use Rattle.std.specs.Io.KnownBytes.{Appends};
 ghost use Rattle.std.specs.Prelude.{[], OnErr, OnOk, ◌≡◌, ◌≤◌};
 ghost use Rattle.weave_base.specs.Causes.{Rose};
@@ -62,7 +62,7 @@ fn tell_done<E: Sink>(done: &[Ran], err: &mut E) -> Result<(), Failed>
 
 /// Writes a line for each job that ran, in their order, and then that of the answer, up to the first write that fails.
 pub fn tell<E: Sink>(done: &[Ran], answer: &SpoolAnswer, err: &mut E)
-    ensures { Tells (outside_of E.held E.faults err.old err.new) (spool_text done.now answer.now) }
+    ensures { IsReported (outside_of E.held E.faults err.old err.new) (spool_text done.now answer.now) }
 {
     if tell_done(done, err).is_err() {
         return;

@@ -52,7 +52,7 @@ has-dots b items has t inside =
     )
 
 bottom-at : (b : Slab) (items : List Cell) → Gives b items → (p : Place) → IsTile (shape_of b) p → p.j + 1 ≡ bands_of (shape_of b)
-    → get_elem? items (4 * number_in b p + 1) ≡ some (cell.Bottom (gives b p).band)
+    → get_elem? items (4 * number_in b p + 1) ≡ some (cell.Bottom (gives b p).bottom)
 bottom-at b items has p tile last =
     has (number_in b p) 1 (number_below (shape_of b) p tile) (omega arith) (next-none (shape_of b) Bottom p tile (λ to there receiver.
     let j : ℕ = to.j in let h : j < bands_of (shape_of b) = there.band in omega (arith, receiver.1)))
@@ -65,9 +65,9 @@ closes b items r sizes has is =
     let at-last : last + 1 ≡ bands_of (shape_of b) = let h = sizes.some_height in omega arith in
     let below : (c : ℕ) → c < columns_of (shape_of b) → IsTile (shape_of b) (record { c = c; j = last }) =
     λ c inside. record { column = inside; band = omega arith } in
-    let band : (c : ℕ) → c < columns_of (shape_of b) → get_or r.bottom c [] ≡ (gives b (record { c = c; j = last })).band = λ c inside.
+    let band : (c : ℕ) → c < columns_of (shape_of b) → get_or r.bottom c [] ≡ (gives b (record { c = c; j = last })).bottom = λ c inside.
     let p : Place = record { c = c; j = last } in
-    is.bottoms p (gives b p).band (below c inside) at-last (number_below (shape_of b) p (below c inside))
+    is.bottoms p (gives b p).bottom (below c inside) at-last (number_below (shape_of b) p (below c inside))
     (bottom-at b items has p (below c inside) at-last) in
     record {
       count = is.count;
@@ -83,7 +83,7 @@ closes b items r sizes has is =
       is_top = record {
         columns = is.columns;
         edge_inks =
-            λ c inside. ap length (band c inside) ∙ (given-inks b.kernel (amounts_of b) (top_edges b) (record { c = c; j = last })).band;
+            λ c inside. ap length (band c inside) ∙ (given-inks b.kernel (amounts_of b) (top_edges b) (record { c = c; j = last })).bottom;
       };
       bottoms = λ i low. record {
         count = length-map r.bottom (λ (edge : List (List ℤ)). errors_of edge i) ∙ is.columns;

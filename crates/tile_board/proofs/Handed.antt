@@ -41,7 +41,7 @@ same-source Corner p a b h k = same_parts a b (sym h.0 ∙ k.0) (let x : ℕ = a
 
 edge-inks : (b : Slab) (d : Dir) (p : Place) → length (edge_of (gives b p) d) ≡ (amounts_of b).inks
 edge-inks b Right p = (given-inks b.kernel (amounts_of b) (top_edges b) p).side
-edge-inks b Bottom p = (given-inks b.kernel (amounts_of b) (top_edges b) p).band
+edge-inks b Bottom p = (given-inks b.kernel (amounts_of b) (top_edges b) p).bottom
 edge-inks b Corner p = (given-inks b.kernel (amounts_of b) (top_edges b) p).corner
 
 abbrev pub Comes : Slab → Dir → Place → List (List ℤ) → Type 0
@@ -124,7 +124,7 @@ pub task-of : (b : Slab) (task : Task) → IsTile (shape_of b) task.place → Co
     → Comes b Corner task.place task.corner → length task.dots.bits ≡ (amounts_of b).inks → IsTaskOf b task
 task-of b task tile left above corner bits = record {
   tile = tile;
-  inks = record { side = left.inks; band = above.inks; corner = corner.inks; bits = bits };
+  inks = record { side = left.inks; bottom = above.inks; corner = corner.inks; bits = bits };
   ready = handed-ready handed_right b.kernel (amounts_of b) (top_edges b) task.place (handed task) tile are;
 }
   where

@@ -17,36 +17,36 @@ use Rattle.tile_border.specs.Works.{Border, IsWholeInk, SameInk, Works, WorksInk
 done_same : (k : Kernel) (rows : AmountTable) (p : Place) (i : ℕ) (e : Errors) {s s1 b b1 q q1 : List ℤ} {d d1 : List ℕ} → s1 ≡ s → b1 ≡ b
     → q1 ≡ q → d1 ≡ d
     → IsDone (table_of k) (plane_of rows i) e p s b q d → IsDone (table_of k) (plane_of rows i) e p s1 b1 q1 d1
-done_same k rows p i e {s} {s1} {b} {b1} {q} {q1} {d} {d1} side band corner bits done =
+done_same k rows p i e {s} {s1} {b} {b1} {q} {q1} {d} {d1} side bottom corner bits done =
     let S : List ℤ → Type 0 = λ x. IsDone (table_of k) (plane_of rows i) e p x b q d in
     let B : List ℤ → Type 0 = λ x. IsDone (table_of k) (plane_of rows i) e p s1 x q d in
     let Q : List ℤ → Type 0 = λ x. IsDone (table_of k) (plane_of rows i) e p s1 b1 x d in
     let D : List ℕ → Type 0 = λ x. IsDone (table_of k) (plane_of rows i) e p s1 b1 q1 x in
-    subst D (sym bits) (subst Q (sym corner) (subst B (sym band) (subst S (sym side) done)))
+    subst D (sym bits) (subst Q (sym corner) (subst B (sym bottom) (subst S (sym side) done)))
 
 ready_same : (p : Place) (e : Errors) {s s1 b b1 q q1 : List ℤ} → s1 ≡ s → b1 ≡ b → q1 ≡ q → IsReady e p s b q → IsReady e p s1 b1 q1
-ready_same p e {s} {s1} {b} {b1} {q} {q1} side band corner ready =
+ready_same p e {s} {s1} {b} {b1} {q} {q1} side bottom corner ready =
     let S : List ℤ → Type 0 = λ x. IsReady e p x b q in
     let B : List ℤ → Type 0 = λ x. IsReady e p s1 x q in
     let Q : List ℤ → Type 0 = λ x. IsReady e p s1 b1 x in
-    subst Q (sym corner) (subst B (sym band) (subst S (sym side) ready))
+    subst Q (sym corner) (subst B (sym bottom) (subst S (sym side) ready))
 
 -- what is done stays
 stays : (k : Kernel) (rows : AmountTable) (p : Place) (i : ℕ) (old mid new : Border) → SameInk i mid new → Works k rows p i old mid
     → Works k rows p i old new
 stays k rows p i old mid new same works = λ e solves ready.
-    done_same k rows p i e same.side same.band same.corner same.bits (works e solves ready)
+    done_same k rows p i e same.side same.bottom same.corner same.bits (works e solves ready)
 
 -- what was not begun is as it was
 begins : (k : Kernel) (rows : AmountTable) (p : Place) (i : ℕ) (old mid new : Border) → SameInk i old mid → Works k rows p i mid new
     → Works k rows p i old new
 begins k rows p i old mid new same works = λ e solves ready.
-    works e solves (ready_same p e same.side same.band same.corner ready)
+    works e solves (ready_same p e same.side same.bottom same.corner ready)
 
 then_same : (i : ℕ) (old mid new : Border) → SameInk i old mid → SameInk i mid new → SameInk i old new
 then_same i old mid new a b = record {
   side = b.side ∙ a.side;
-  band = b.band ∙ a.band;
+  bottom = b.bottom ∙ a.bottom;
   corner = b.corner ∙ a.corner;
   bits = b.bits ∙ a.bits;
 }
@@ -67,7 +67,7 @@ rest_more k rows p n old mid new step rest i after = then_same i old mid new (re
 whole_same : (i : ℕ) (mid new : Border) → SameInk i mid new → IsWholeInk i mid → IsWholeInk i new
 whole_same i mid new same whole = record {
   side = ap length same.side ∙ whole.side;
-  band = ap length same.band ∙ whole.band;
+  bottom = ap length same.bottom ∙ whole.bottom;
   corner = ap length same.corner ∙ whole.corner;
   bits = ap length same.bits ∙ whole.bits;
   bytes = λ n. let Q : List ℕ → Type 0 = λ xs. get_or xs n 0 < 256 in subst Q (sym same.bits) (whole.bytes n);
@@ -129,8 +129,8 @@ pub works_ink : (k : Kernel) (rows : AmountTable) (p : Place) (i at : ℕ) (s sv
     → at ≡ i → i < length d → IsWritten at i s sv so → IsWritten at i b bv bo → IsWritten at i q qv qo
     → ((e : Errors) → Solves (table_of k) (plane_of rows i) e → IsReady e p so bo qo
     → IsDone (table_of k) (plane_of rows i) e p sx bx qx dx)
-    → WorksInk k rows p i (record { side = sv; band = bv; corner = qv; bits = d })
-    (record { side = set s at sx; band = set b at bx; corner = set q at qx; bits = set d i dx })
+    → WorksInk k rows p i (record { side = sv; bottom = bv; corner = qv; bits = d })
+    (record { side = set s at sx; bottom = set b at bx; corner = set q at qx; bits = set d i dx })
 works_ink k rows p i at s sv b bv q qv d sx so bx bo qx qo dx same room ws wb wq done = record {
   works = λ e solves ready. done_same k rows p i e
       (set_here s at i sx same ws.room) (set_here b at i bx same wb.room) (set_here q at i qx same wq.room) (set_here d i i dx refl room)
@@ -139,13 +139,13 @@ works_ink k rows p i at s sv b bv q qv d sx so bx bo qx qo dx same room ws wb wq
       (sym (read_here q qv at i qo wq.is same wq.room wq.read)) ready));
   others = λ j other. record {
     side = set_there s sv at i j sx ws.is same other;
-    band = set_there b bv at i j bx wb.is same other;
+    bottom = set_there b bv at i j bx wb.is same other;
     corner = set_there q qv at i j qx wq.is same other;
     bits = set_there d d i i j dx refl refl other;
   };
   inks = λ n has. record {
     side = set_long s sv at n sx ws.is has.side;
-    band = set_long b bv at n bx wb.is has.band;
+    bottom = set_long b bv at n bx wb.is has.bottom;
     corner = set_long q qv at n qx wq.is has.corner;
     bits = set_long d d i n dx refl has.bits;
   };

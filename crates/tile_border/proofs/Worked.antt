@@ -29,7 +29,7 @@ HandedLaw = (k : Table) (plane : Plane) (e : Errors) (s : Shape) (top : List (Li
     → ((from : Place) → IsTile s from → IsReceiver d from to → IsGiven e d from (edges d from)) → IsTaken e d to xs
 
 given_edge : (k : Kernel) (rows : AmountTable) (e : Errors) (p : Place) (i : ℕ) (given : Border) (d : Dir)
-    → IsDone (table_of k) (plane_of rows i) e p (errors_of given.side i) (errors_of given.band i) (errors_of given.corner i)
+    → IsDone (table_of k) (plane_of rows i) e p (errors_of given.side i) (errors_of given.bottom i) (errors_of given.corner i)
     (slice_index_or given.bits i [])
     → IsGiven e d p (errors_of (edge_of given d) i)
 given_edge k rows e p i given Right done = done.has_right

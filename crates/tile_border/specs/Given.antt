@@ -8,11 +8,11 @@ use Rattle.tile_border.specs.declared.task.Task.{Task}
 
 -- the edges that a task has, and the dots that it is to fill
 abbrev pub handed : Task → Border
-handed task = record { side = task.left; band = task.above; corner = task.corner; bits = task.dots.bits }
+handed task = record { side = task.left; bottom = task.above; corner = task.corner; bits = task.dots.bits }
 
 -- the edges and the dots of a tile that was worked
 abbrev pub gave : Done → Border
-gave done = record { side = done.right; band = done.bottom; corner = done.corner; bits = done.dots.bits }
+gave done = record { side = done.right; bottom = done.bottom; corner = done.corner; bits = done.dots.bits }
 
 -- Each ink of a tile of these rows is diffused.
 pub record IsWorkOf (k : Kernel) (rows : AmountTable) (task : Task) (done : Done) : Type 0 where

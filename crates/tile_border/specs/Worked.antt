@@ -21,7 +21,7 @@ use Rattle.tile_border.specs.Works.{Border, Works}
 -- the edge that goes, or comes, this way
 abbrev pub edge_of : Border → Dir → List (List ℤ)
 edge_of b Right = b.side
-edge_of b Bottom = b.band
+edge_of b Bottom = b.bottom
 edge_of b Corner = b.corner
 
 -- what a tile gave, as a record keeps it

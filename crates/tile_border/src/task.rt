@@ -33,5 +33,5 @@ pub struct Done {
     pub bottom: BottomEdge,
     /// Its corner edge.
     pub corner: CornerEdge,
-    pub ghost whole: { IsWhole (record { side = right; band = bottom; corner = corner; bits = dots.bits }) },
+    pub ghost whole: { IsWhole (record { side = right; bottom = bottom; corner = corner; bits = dots.bits }) },
 }

@@ -10,18 +10,18 @@ use dot_planes::TileBits;
 pub(crate) fn ink_is_whole(
     ink: u8,
     side: &RightEdge,
-    band: &BottomEdge,
+    bottom: &BottomEdge,
     corner: &CornerEdge,
     bits: &TileBits,
 )
     requires side { ink < length side.now }
-    requires band { ink < length band.now }
+    requires bottom { ink < length bottom.now }
     requires corner { ink < length corner.now }
     requires bits { ink < length bits.now }
-    ensures { IsWholeInk ink (record { side = side.now; band = band.now; corner = corner.now; bits = bits.now }) }
+    ensures { IsWholeInk ink (record { side = side.now; bottom = bottom.now; corner = corner.now; bits = bits.now }) }
 {
     are_errors(side.ink(ink));
-    are_errors(band.ink(ink));
+    are_errors(bottom.ink(ink));
     are_errors(corner.ink(ink));
     dots_are_whole(bits, ink);
 }

@@ -107,7 +107,7 @@ fn work_ink<A: TileRows>(
     amounts: &TileAmounts,
     ink: u8,
     side: &mut RightEdge,
-    band: &mut BottomEdge,
+    bottom: &mut BottomEdge,
     corner: &mut CornerEdge,
     bits: &mut TileBits,
     field: &mut Field,
@@ -117,10 +117,10 @@ fn work_ink<A: TileRows>(
     requires few { (A.table rows.now).inks ≤ 4 }
     requires ink { ink < (A.table rows.now).inks }
     requires inks { HasInks (A.table rows.now).inks
-        (record { side = side.old; band = band.old; corner = corner.old; bits = bits.old }) }
+        (record { side = side.old; bottom = bottom.old; corner = corner.old; bits = bits.old }) }
     ensures { WorksInk kernel (A.table rows.now) place ink
-        (record { side = side.old; band = band.old; corner = corner.old; bits = bits.old })
-        (record { side = side.new; band = band.new; corner = corner.new; bits = bits.new }) }
+        (record { side = side.old; bottom = bottom.old; corner = corner.old; bits = bits.old })
+        (record { side = side.new; bottom = bottom.new; corner = corner.new; bits = bits.new }) }
 {
     let at = usize::from(ink);
     diffuse_tile(
@@ -129,7 +129,7 @@ fn work_ink<A: TileRows>(
         place,
         &amounts.inks[at],
         &mut side.inks[at],
-        &mut band.inks[at],
+        &mut bottom.inks[at],
         &mut corner.inks[at],
         bits.ink_mut(ink),
         field,

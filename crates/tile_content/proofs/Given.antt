@@ -35,7 +35,7 @@ pub given-inks : (k : Kernel) (rows : AmountTable) (top : Top) (p : Place) → H
 unfolding given
 given-inks k rows top p = record {
   side = list-len (λ i. right_of (errors_below k rows top i) p) rows.inks;
-  band = list-len (λ i. bottom_of (errors_below k rows top i) p) rows.inks;
+  bottom = list-len (λ i. bottom_of (errors_below k rows top i) p) rows.inks;
   corner = list-len (λ i. corner_of (errors_below k rows top i) p) rows.inks;
   bits = list-len (λ i. dots_of (table_of k) (plane_of rows i) (errors_below k rows top i) p) rows.inks;
 }
@@ -71,8 +71,8 @@ blocks-is e j p u rows wide inks xs some len long holds =
     list-is [] xs (λ i. block (e i) j p u rows wide) inks len
     (λ i low. block-is (e i) j p u rows wide (get_or xs i []) some (long i (omega arith)) (holds i low))
 
-border_same : (a b : Border) → a.side ≡ b.side → a.band ≡ b.band → a.corner ≡ b.corner → a.bits ≡ b.bits → a ≡ b
-border_same a b side band corner bits = λ i. record { side = side i; band = band i; corner = corner i; bits = bits i }
+border_same : (a b : Border) → a.side ≡ b.side → a.bottom ≡ b.bottom → a.corner ≡ b.corner → a.bits ≡ b.bits → a ≡ b
+border_same a b side bottom corner bits = λ i. record { side = side i; bottom = bottom i; corner = corner i; bits = bits i }
 
 pub given-is : (k : Kernel) (rows : AmountTable) (top : Top) (p : Place) (b : Border) → HasInks rows.inks b → IsWhole b
     → AreDone k rows top p b → b ≡ given k rows top p
@@ -81,7 +81,7 @@ given-is k rows top p b has whole done =
     let e : ℕ → Errors = errors_below k rows top in
     border_same b (given k rows top p)
     (blocks-is e p.j 2 (64 * p.c + 64) 32 6 rows.inks b.side (lit< tt) has.side whole.side (λ i low. (done i low).has_right))
-    (blocks-is e p.j 32 (64 * p.c + 6) 2 64 rows.inks b.band (lit< tt) has.band whole.band (λ i low. (done i low).has_bottom))
+    (blocks-is e p.j 32 (64 * p.c + 6) 2 64 rows.inks b.bottom (lit< tt) has.bottom whole.bottom (λ i low. (done i low).has_bottom))
     (blocks-is e p.j 32 (64 * p.c + 64) 2 6 rows.inks b.corner (lit< tt) has.corner whole.corner (λ i low. (done i low).has_corner))
     (list-is [] b.bits (λ i. dots_of (table_of k) (plane_of rows i) (e i) p) rows.inks has.bits (λ i low.
     let room : i < length b.bits = omega (arith, has.bits) in
@@ -136,7 +136,7 @@ pub bottoms-are : (k : Kernel) (rows : AmountTable) (top : Top) (j i : ℕ) → 
 unfolding bottoms
 bottoms-are k rows top j i low =
     let columns : ℕ = columns_of (window_of rows) in
-    let at : ℕ → List (List ℤ) = λ c. (given k rows top (record { c = c; j = j })).band in
+    let at : ℕ → List (List ℤ) = λ c. (given k rows top (record { c = c; j = j })).bottom in
     let ink : List (List ℤ) → List ℤ = λ edge. errors_of edge i in
     record {
       count = length-map (list_of at columns) ink ∙ list-len at columns;

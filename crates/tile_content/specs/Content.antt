@@ -52,11 +52,11 @@ dots_of k plane e p = packed (map (λ n. is_on k plane e p (n / 64) (n % 64)) (c
 unfoldable pub given : Kernel → AmountTable → List (List (List ℤ)) → Place → Border
 given k rows top p = record {
   side = list_of (λ i. right_of (errors_below k rows top i) p) rows.inks;
-  band = list_of (λ i. bottom_of (errors_below k rows top i) p) rows.inks;
+  bottom = list_of (λ i. bottom_of (errors_below k rows top i) p) rows.inks;
   corner = list_of (λ i. corner_of (errors_below k rows top i) p) rows.inks;
   bits = list_of (λ i. dots_of (table_of k) (plane_of rows i) (errors_below k rows top i) p) rows.inks;
 }
 
 -- the bottom edges of band j, by columns
 unfoldable pub bottoms : Kernel → AmountTable → List (List (List ℤ)) → ℕ → ℕ → List (List (List ℤ))
-bottoms k rows top j columns = list_of (λ c. (given k rows top (record { c = c; j = j })).band) columns
+bottoms k rows top j columns = list_of (λ c. (given k rows top (record { c = c; j = j })).bottom) columns

@@ -18,13 +18,13 @@ use Rattle.tile_content.specs.Content.{errors_below, given}
 -- In each ink the edges that a tile is handed are those of row-by-row diffusion.
 abbrev pub AreReady : Kernel → AmountTable → List (List (List ℤ)) → Place → Border → Type 0
 AreReady k rows top p b = (i : ℕ) → i < rows.inks
-    → IsReady (errors_below k rows top i) p (errors_of b.side i) (errors_of b.band i) (errors_of b.corner i)
+    → IsReady (errors_below k rows top i) p (errors_of b.side i) (errors_of b.bottom i) (errors_of b.corner i)
 
 -- In each ink the edges and the dots that a tile gives are those of row-by-row diffusion.
 abbrev pub AreDone : Kernel → AmountTable → List (List (List ℤ)) → Place → Border → Type 0
 AreDone k rows top p b = (i : ℕ) → i < rows.inks
     → IsDone (table_of k) (plane_of rows i) (errors_below k rows top i) p
-    (errors_of b.side i) (errors_of b.band i) (errors_of b.corner i) (slice_index_or b.bits i [])
+    (errors_of b.side i) (errors_of b.bottom i) (errors_of b.corner i) (slice_index_or b.bits i [])
 
 -- The edge that a tile is handed in a direction, in each ink: what `given` says of the tile that sends it, zeros where
 -- no tile does, and the top's edges above the first band.

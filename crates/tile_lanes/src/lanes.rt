@@ -100,30 +100,30 @@ pub(crate) fn diffuse_lanes(
     place: Place,
     tile: &[u8; 2048],
     side: &mut [i16; 192],
-    band: &mut [i16; 128],
+    bottom: &mut [i16; 128],
     corner: &mut [i16; 12],
     bits: &mut [u8; 256],
     field: &mut [u16; 3502],
     amounts: &mut [u8; 3072],
 )
     requires side_fits { EachInRange side.old }
-    requires band_fits { EachInRange band.old }
+    requires bottom_fits { EachInRange bottom.old }
     requires corner_fits { EachInRange corner.old }
     requires field { HeldInRange field.old }
     ensures side_fits { EachInRange side.new }
-    ensures band_fits { EachInRange band.new }
+    ensures bottom_fits { EachInRange bottom.new }
     ensures corner_fits { EachInRange corner.new }
     ensures field { HeldInRange field.new }
     ensures done { (amount : ℕ → ℕ → ℕ) → HasPixels shape amount place tile.now
         → DiffusesInk (table_of kernel) (plane_with shape amount) place
-        side.old band.old corner.old side.new band.new corner.new bits.new }
+        side.old bottom.old corner.old side.new bottom.new corner.new bits.new }
 {
     let pace = Pace::of(kernel);
-    put_above(pace, field, band);
+    put_above(pace, field, bottom);
     put_corner(pace, field, corner);
     put_left(pace, field, side);
     diffuse_steps(kernel, shape, place, tile, amounts, field, bits);
     take_right(pace, field, side);
-    take_bottom(pace, field, band);
+    take_bottom(pace, field, bottom);
     take_lower_corner(pace, field, corner);
 }

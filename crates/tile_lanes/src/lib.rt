@@ -4,7 +4,7 @@
 //! `diffuse_tile`: take any amounts that the tile's are, and any errors that solve the kernel's rule for them. Where
 //! the three edges handed in hold these errors, so do the three handed on, and each dot is the rule's; there is no dot
 //! left of the window, right of it or below it (`done`). The errors handed on are from -2040 to 2039 (`side_fits`,
-//! `band_fits`, `corner_fits`). The contract fixes no order of pixels.
+//! `bottom_fits`, `corner_fits`). The contract fixes no order of pixels.
 #![tactic(auto)]
 
 mod field;

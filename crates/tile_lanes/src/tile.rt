@@ -16,8 +16,8 @@ use tile_shape::{Place, Shape};
 /// after the call the one that it hands on:
 ///
 /// - `side`: 32 rows of six errors, before the call the left edge, after it the right one;
-/// - `band`: two rows of 64, before the call those above the tile, after it the tile's last two;
-/// - `corner`: two rows of six, before the call those left of `band`, after it the last six of `band`.
+/// - `bottom`: two rows of 64, before the call the bottom edge from above, after it the tile's own;
+/// - `corner`: two rows of six, before the call those left of `bottom`, after it the last six of `bottom`.
 ///
 /// `dots` becomes 32 rows of 64 dots, eight a byte, the first in the highest bit; where the window has no pixel there
 /// is no dot.
@@ -29,21 +29,21 @@ pub fn diffuse_tile(
     place: Place,
     amounts: &[u8; 2048],
     side: &mut [i16; 192],
-    band: &mut [i16; 128],
+    bottom: &mut [i16; 128],
     corner: &mut [i16; 12],
     dots: &mut [u8; 256],
     field: &mut Field,
 )
     requires tile { IsTile shape place }
     requires side_fits { EachInRange side.old }
-    requires band_fits { EachInRange band.old }
+    requires bottom_fits { EachInRange bottom.old }
     requires corner_fits { EachInRange corner.old }
     ensures side_fits { EachInRange side.new }
-    ensures band_fits { EachInRange band.new }
+    ensures bottom_fits { EachInRange bottom.new }
     ensures corner_fits { EachInRange corner.new }
     ensures done { (amount : ℕ → ℕ → ℕ) → HasPixels shape amount place amounts.now
         → DiffusesInk (table_of kernel) (plane_with shape amount) place
-        side.old band.old corner.old side.new band.new corner.new dots.new }
+        side.old bottom.old corner.old side.new bottom.new corner.new dots.new }
 {
     // A call for each kernel: its shares are constants there.
     match kernel {
@@ -53,7 +53,7 @@ pub fn diffuse_tile(
             place,
             amounts,
             side,
-            band,
+            bottom,
             corner,
             dots,
             &mut field.held,
@@ -65,7 +65,7 @@ pub fn diffuse_tile(
             place,
             amounts,
             side,
-            band,
+            bottom,
             corner,
             dots,
             &mut field.held,
@@ -77,7 +77,7 @@ pub fn diffuse_tile(
             place,
             amounts,
             side,
-            band,
+            bottom,
             corner,
             dots,
             &mut field.held,

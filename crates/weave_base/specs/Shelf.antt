@@ -19,15 +19,15 @@ unfoldable pub text_named : List ℕ → List NamedText → Option (List ℕ)
 text_named name files = option_map (λ f. f.bytes) (find (λ f. bytes_eq f.name name) files)
 
 -- what a read of at most `most` bytes answers where these are the bytes of the name, or there is none
-abbrev pub Shows : Option (List ℕ) → ℕ → Found → Type 0
-Shows held most (found.Text text) = held ≡ Some text.items
-Shows held most found.Absent = held ≡ None
-Shows held most found.TooLong = IsSomeAnd held (λ bytes. most < length bytes)
+abbrev pub AnswersRead : Option (List ℕ) → ℕ → Found → Type 0
+AnswersRead held most (found.Text text) = held ≡ Some text.items
+AnswersRead held most found.Absent = held ≡ None
+AnswersRead held most found.TooLong = IsSomeAnd held (λ bytes. most < length bytes)
 
 -- the same of the text of this name, where the shelf says what it holds
 abbrev pub Finds : Option (List NamedText) → List ℕ → ℕ → Found → Type 0
 Finds None name most answer = Unit {0}
-Finds (Some files) name most answer = Shows (text_named name files) most answer
+Finds (Some files) name most answer = AnswersRead (text_named name files) most answer
 
 -- a text that is given has at most `most` bytes
 abbrev pub IsWithin : ℕ → Found → Type 0

@@ -46,8 +46,8 @@ impl<R: Files> Shelf for DirShelf<R> {
 
     ghost faults = { λ s. s };
 
-    /// A name that is empty, `.` or `..` or has a `/` is absent, and so is a file that is not found. `Memory` is the
-    /// program's own want of memory. Each other error is a fault, also where the system is out of memory.
+    /// A name that is empty, `.` or `..` or has a `/` is absent, and so is a file that is not found. `Memory` says that
+    /// the program itself is out of memory. Each other error is a fault, also if the system is out of memory.
     fn read_text(&mut self, alloc: Global, name: &str, most: usize) -> Result<Found, ShelfStop>
         ensures within { IfOk result (IsWithin most) }
         ensures found { IfOk result (Finds None name.now most) }

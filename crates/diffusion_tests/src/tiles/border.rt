@@ -16,7 +16,7 @@ use tile_shape::Place;
 fn zero_task(alloc: Global, place: Place) -> Result<Task, Memory>
     ensures place { IfOk result (λ t. t.place ≡ place) }
     ensures inks { IfOk result (λ t. HasInks 2
-        (record { side = t.left; band = t.above; corner = t.corner; bits = t.dots.bits })) }
+        (record { side = t.left; bottom = t.above; corner = t.corner; bits = t.dots.bits })) }
 {
     let left = RightEdge::zero(alloc, 2)?;
     let above = BottomEdge::zero(alloc, 2)?;
@@ -34,12 +34,12 @@ fn zero_task(alloc: Global, place: Place) -> Result<Task, Memory>
 // Gives an ink one error everywhere in what a tile is handed.
 fn hand(task: &mut Task, ink: u8, error: i16)
     requires inks { HasInks 2
-        (record { side = task.old.left; band = task.old.above; corner = task.old.corner; bits = task.old.dots.bits }) }
+        (record { side = task.old.left; bottom = task.old.above; corner = task.old.corner; bits = task.old.dots.bits }) }
     requires ink { ink < 2 }
     requires error { InRange error }
     ensures place { task.new.place ≡ task.old.place }
     ensures inks { HasInks 2
-        (record { side = task.new.left; band = task.new.above; corner = task.new.corner; bits = task.new.dots.bits }) }
+        (record { side = task.new.left; bottom = task.new.above; corner = task.new.corner; bits = task.new.dots.bits }) }
 {
     task.left.put(ink, &[error; 192]);
     task.above.put(ink, &[error; 128]);
@@ -68,7 +68,7 @@ fn gives(done: &Done, ink: u8, error: i16, dots: u8) -> bool
     requires inks { HasInks 2
         (record {
           side = done.now.right;
-          band = done.now.bottom;
+          bottom = done.now.bottom;
           corner = done.now.corner;
           bits = done.now.dots.bits;
         }) }
@@ -85,7 +85,7 @@ fn work_extremes(alloc: Global, place: Place, kernel: Kernel) -> Result<Done, Me
     requires column { place.c < 5 }
     requires band { place.j < 3 }
     ensures inks { IfOk result (λ d. HasInks 2
-        (record { side = d.right; band = d.bottom; corner = d.corner; bits = d.dots.bits })) }
+        (record { side = d.right; bottom = d.bottom; corner = d.corner; bits = d.dots.bits })) }
 {
     let rows = light_and_dark(alloc)?;
     let mut task = zero_task(alloc, place)?;
@@ -112,7 +112,7 @@ fn the_greatest_and_the_least_error_stay_as_they_are(rt: HostRuntime) -> Result<
 // Works the tile of a window of one pixel, whose amounts are 127 and 128.
 fn work_one_pixel(alloc: Global) -> Result<Done, Memory>
     ensures inks { IfOk result (λ d. HasInks 2
-        (record { side = d.right; band = d.bottom; corner = d.corner; bits = d.dots.bits })) }
+        (record { side = d.right; bottom = d.bottom; corner = d.corner; bits = d.dots.bits })) }
 {
     let mut rows = InkRows::make(alloc, 1, 1, 2)?;
     rows.set(0, 0, 0, 127);

@@ -61,7 +61,7 @@ const LOWER_CORNER: Block = Block {
 #[derive(Clone, Copy, PartialEq, Eq)]
 struct Edges {
     side: [i16; 192],
-    band: [i16; 128],
+    bottom: [i16; 128],
     corner: [i16; 12],
 }
 
@@ -109,12 +109,12 @@ fn fill_all(edge: &mut [i16], error: i32)
 // No errors.
 fn no_edges() -> Edges
     ensures side { EachInRange result.side }
-    ensures band { EachInRange result.band }
+    ensures bottom { EachInRange result.bottom }
     ensures corner { EachInRange result.corner }
 {
     Edges {
         side: [0; 192],
-        band: [0; 128],
+        bottom: [0; 128],
         corner: [0; 12],
     }
 }
@@ -122,12 +122,12 @@ fn no_edges() -> Edges
 // What a tile is handed.
 fn handed(known: &Definition, place: Place) -> Edges
     ensures side { EachInRange result.side }
-    ensures band { EachInRange result.band }
+    ensures bottom { EachInRange result.bottom }
     ensures corner { EachInRange result.corner }
 {
     let mut edges = no_edges();
     fill(known, place, LEFT, &mut edges.side);
-    fill(known, place, ABOVE, &mut edges.band);
+    fill(known, place, ABOVE, &mut edges.bottom);
     fill(known, place, CORNER, &mut edges.corner);
     edges
 }
@@ -177,7 +177,7 @@ struct Given {
 fn diffused(kernel: Kernel, place: Place, rows: &InkRows, handed: Edges) -> Given
     requires tile { IsTile (window_of rows.now) place }
     requires side { EachInRange handed.side }
-    requires band { EachInRange handed.band }
+    requires bottom { EachInRange handed.bottom }
     requires corner { EachInRange handed.corner }
 {
     let mut edges = handed;
@@ -190,7 +190,7 @@ fn diffused(kernel: Kernel, place: Place, rows: &InkRows, handed: Edges) -> Give
         place,
         &amounts.inks[0],
         &mut edges.side,
-        &mut edges.band,
+        &mut edges.bottom,
         &mut edges.corner,
         &mut dots,
         &mut tile_lanes::Field::make(),
@@ -220,7 +220,7 @@ impl Field {
             dots: [0; 256],
         };
         field.lay(LEFT, &edges.side);
-        field.lay(ABOVE, &edges.band);
+        field.lay(ABOVE, &edges.bottom);
         field.lay(CORNER, &edges.corner);
         field
     }
@@ -304,7 +304,7 @@ fn is_right(known: &Definition, kernel: Kernel, place: Place, rows: &InkRows) ->
     }
     let given = diffused(kernel, place, rows, handed(known, place));
     is_block(known, place, RIGHT, &given.edges.side)
-        && is_block(known, place, BOTTOM, &given.edges.band)
+        && is_block(known, place, BOTTOM, &given.edges.bottom)
         && is_block(known, place, LOWER_CORNER, &given.edges.corner)
         && has_dots(known, place, &given.dots)
 }
@@ -375,12 +375,12 @@ fn is_right_at(kernel: Kernel, place: Place, rows: &InkRows, error: i32) -> bool
     }
     let mut edges = no_edges();
     fill_all(&mut edges.side, error);
-    fill_all(&mut edges.band, error);
+    fill_all(&mut edges.bottom, error);
     fill_all(&mut edges.corner, error);
     let wanted = worked(kernel, place, rows, &edges);
     let given = diffused(kernel, place, rows, edges);
     wanted.has(RIGHT, &given.edges.side)
-        && wanted.has(BOTTOM, &given.edges.band)
+        && wanted.has(BOTTOM, &given.edges.bottom)
         && wanted.has(LOWER_CORNER, &given.edges.corner)
         && wanted.dots == given.dots
 }

@@ -33,7 +33,7 @@ use Rattle.pwg_stream.specs.declared.stops.StreamStop.{StreamStop}
 use Rattle.pwg_stream.specs.declared.stops.StreamStop.TheVariants as stop
 use Rattle.pwg_stream.specs.Reading.{page_of, text_of}
 use Rattle.pwg_stream.specs.Stops.{OnInput}
-use Rattle.pwg_stream.specs.Taken.{MoreMayMend, TakesAllPages, TakesNoPage}
+use Rattle.pwg_stream.specs.Taken.{StreamMayGoOn, TakesAllPages, TakesNoPage}
 use Rattle.buffered_bytes.specs.Text.{UsesSome, text_behind}
 use Rattle.printer_definitions.specs.declared.inks.InkCounts.{InkCounts}
 use Rattle.weave_base.specs.Causes.{Rose}
@@ -167,7 +167,7 @@ all_taken {p = p} {before = before} {left} left' {old} {done = done} so_far none
     let is : stream (wanted_by p) bytes ≡ with_pages done behind =
     so_far.is none.bytes
     ∙ ap (λ n. with_pages done (pages_from (wanted_by p) (9999 - n) (n + 1) none.bytes)) (sym so_far.many) in
-    let P : Stream → Type 0 = λ s. MoreMayMend s.end in record {
+    let P : Stream → Type 0 = λ s. StreamMayGoOn s.end in record {
       bytes = bytes;
       taken = Consumes-trans before (text_of old left) left' so_far.bytes none.bytes so_far.used none.taken;
       are = ap (λ (s : Stream). s.pages) is ∙ ap (λ ps. done ++ ps) none.none ∙ append-nil done;

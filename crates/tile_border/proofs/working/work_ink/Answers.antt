@@ -7,10 +7,10 @@ diffuse_tile-requires-clause-side_fits g c =
     read_fits c.side.inside.inks.items c.from-at.result c.index_mut.result.now c.side.invariant
     (room_for _ _ _ _ _ c.from-at.ensures c.side.view_is c.requires.inks.side c.requires.ink) c.index_mut.ensures.value
 
-pub diffuse_tile-requires-clause-band_fits : goal.diffuse_tile-requires-clause-band_fits
-diffuse_tile-requires-clause-band_fits g c =
-    read_fits c.band.inside.inks.items c.from-at.result c.index_mut-2.result.now c.band.invariant
-    (room_for _ _ _ _ _ c.from-at.ensures c.band.view_is c.requires.inks.band c.requires.ink) c.index_mut-2.ensures.value
+pub diffuse_tile-requires-clause-bottom_fits : goal.diffuse_tile-requires-clause-bottom_fits
+diffuse_tile-requires-clause-bottom_fits g c =
+    read_fits c.bottom.inside.inks.items c.from-at.result c.index_mut-2.result.now c.bottom.invariant
+    (room_for _ _ _ _ _ c.from-at.ensures c.bottom.view_is c.requires.inks.bottom c.requires.ink) c.index_mut-2.ensures.value
 
 pub diffuse_tile-requires-clause-corner_fits : goal.diffuse_tile-requires-clause-corner_fits
 diffuse_tile-requires-clause-corner_fits g c =
@@ -20,9 +20,9 @@ diffuse_tile-requires-clause-corner_fits g c =
 pub returns : goal.returns
 returns g c =
     works_ink c.args.kernel (g.A.TileRows.table c.args.rows.now) c.args.place c.args.ink c.from-at.result
-    c.side.inside.inks.items c.args.side.now c.band.inside.inks.items c.args.band.now c.corner.inside.inks.items c.args.corner.now
+    c.side.inside.inks.items c.args.side.now c.bottom.inside.inks.items c.args.bottom.now c.corner.inside.inks.items c.args.corner.now
     c.args.bits.now
-    c.diffuse_tile.new.side c.index_mut.result.now c.diffuse_tile.new.band c.index_mut-2.result.now c.diffuse_tile.new.corner
+    c.diffuse_tile.new.side c.index_mut.result.now c.diffuse_tile.new.bottom c.index_mut-2.result.now c.diffuse_tile.new.corner
     c.index_mut-3.result.now c.diffuse_tile.new.dots
     c.from-at.ensures (omega (arith, c.requires.inks.bits, c.requires.ink))
     (record {
@@ -31,8 +31,8 @@ returns g c =
       read = c.index_mut.ensures.value;
     })
     (record {
-      is = c.band.view_is;
-      room = room_for _ _ _ _ _ c.from-at.ensures c.band.view_is c.requires.inks.band c.requires.ink;
+      is = c.bottom.view_is;
+      room = room_for _ _ _ _ _ c.from-at.ensures c.bottom.view_is c.requires.inks.bottom c.requires.ink;
       read = c.index_mut-2.ensures.value;
     })
     (record {

@@ -5,8 +5,8 @@ use Rattle.tile_border.proofs.working.work_inks.Given as goal
 
 abbrev pub invariant-loop-ink : goal.invariant-loop-ink
 invariant-loop-ink g l =
-    let old : Border = record { side = l.initial.right; band = l.initial.bottom; corner = l.initial.corner; bits = l.initial.bits } in
-    let now : Border = record { side = l.right; band = l.bottom; corner = l.corner; bits = l.bits } in
+    let old : Border = record { side = l.initial.right; bottom = l.initial.bottom; corner = l.initial.corner; bits = l.initial.bits } in
+    let now : Border = record { side = l.right; bottom = l.bottom; corner = l.corner; bits = l.bits } in
     let rows : AmountTable = g.A.TileRows.table l.rows in
     record {
       inks : HasInks rows.inks now;
