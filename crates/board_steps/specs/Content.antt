@@ -6,7 +6,7 @@ use Rattle.diffusion_kernel.specs.declared.tables.Kernel.{Kernel}
 use Rattle.dot_planes.specs.Tables.{AmountTable}
 use Rattle.tile_lanes.specs.Done.{window_of}
 use Rattle.tile_border.specs.Works.{Border}
-use Rattle.tile_content.specs.Content.{given}
+use Rattle.tile_border.specs.Content.{given}
 use Rattle.board_steps.specs.declared.rule.Cell.{Cell}
 use Rattle.board_steps.specs.declared.rule.Cell.TheVariants.{Empty, Right, Bottom, Corner, Dots}
 

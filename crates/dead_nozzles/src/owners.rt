@@ -7,7 +7,7 @@ ghost use Rattle.std.specs.Prelude.{IfOk, None, if◌then◌else◌, length, sli
 use crate::worn::WornHead;
 use base_definitions::Memory;
 use std::alloc::Global;
-use weave_plan::Plan;
+use weave_definitions::Plan;
 
 // The start of the pass that fires a row, or `None` where the nozzle that is over it there is dead.
 fn pass_owner(head: &WornHead, plan: &Plan, row: u32) -> Option<u32>

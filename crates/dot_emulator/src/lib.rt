@@ -18,6 +18,5 @@ mod state;
 mod steps;
 
 pub use emulator::{Emulator, EmulatorStop};
-pub use escp2_commands::{Command, RasterHead};
-pub use escp2_definitions::EmulatorFault;
+pub use escp2_definitions::{Command, EmulatorFault, RasterHead};
 pub use sheet::Sheet;

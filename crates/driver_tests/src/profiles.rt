@@ -4,7 +4,7 @@ use crate::fixture::{
 };
 use crate::printers::MOVED_JOB;
 use driver_fixtures::{Left, failing_shelf, plain, run_over, sink};
-use known_jobs::TINY_TEXT;
+use job_fixtures::TINY_TEXT;
 use pwg_header::Kind;
 use std::alloc::Global;
 use std::test::Fail;

@@ -9,7 +9,7 @@ use driver_fixtures::{
     BLACK_BODY, Left, add_header, begin, black_pages, no_files, plain, run_over, sink,
 };
 use hash_fixtures::hash_of;
-use known_jobs::TINY_JOB;
+use job_fixtures::TINY_JOB;
 use pwg_header::Kind;
 use std::alloc::Global;
 use std::process::Abort;

@@ -1,2 +1,5 @@
 pub mod Hearing
 pub mod RowsHeard
+pub mod Pieces
+pub mod Feeding
+pub mod Jobs

@@ -5,7 +5,7 @@ ghost use Rattle.std.specs.Prelude.{◌∷◌, ◌≡◌};
 
 use crate::sized::after_paren;
 use crate::{Command, JobCause, RasterHead};
-use escp2_commands::{MOST_UNITS, RASTER_COLUMNS};
+use escp2_definitions::{MOST_UNITS, RASTER_COLUMNS};
 use printer_definitions::Ink;
 
 /// What the gathered bytes of a command are.

@@ -5,7 +5,7 @@ ghost use Rattle.std.specs.Prelude.{◌∷◌, ◌≡◌};
 
 use crate::headers::{HeaderState, bad_value, is_in, unknown};
 use crate::{Command, JobCause};
-use escp2_commands::MOST_UNITS;
+use escp2_definitions::MOST_UNITS;
 
 /// What the bytes after `ESC (` are.
 pub(crate) fn after_paren(bytes: &[u8]) -> HeaderState

@@ -2,7 +2,7 @@
 ghost use Rattle.escp2_definitions.specs.Commands.{in_table as in_table_of, rows_len as rows_len_of};
 ghost use Rattle.std.specs.Prelude.{length, true, ◌≡◌};
 
-use escp2_commands::{Command, RasterHead, in_table};
+use escp2_definitions::{Command, RasterHead, in_table};
 use std::alloc::Global;
 use std::fmt::Debug;
 use std::process::Abort;

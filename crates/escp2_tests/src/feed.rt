@@ -3,7 +3,7 @@ ghost use Rattle.std.specs.Prelude.{◌<◌, ◌^◌};
 
 use crate::checks::{RASTER, same, same_bytes, source};
 use escp2_definitions::{Command, JobStop};
-use job_feed::{FeedStop, JobFeed, PlacedCommand};
+use escp2_reader::{FeedStop, JobFeed, PlacedCommand};
 use std::alloc::Global;
 use std::test::Fail;
 

@@ -1,8 +1,8 @@
 //! Listings of whole, refused and cut jobs.
 use crate::checks::{same, same_bytes, sink, source};
 use escp2_definitions::JobCause;
+use job_fixtures::TINY_JOB;
 use job_lister::{JobStop, ListStop, list_job};
-use known_jobs::TINY_JOB;
 use std::alloc::Global;
 use std::process::Abort;
 use std::test::Fail;

@@ -4,7 +4,7 @@ ghost use Rattle.std.specs.Prelude.{IfOk, false, length, ◌+◌, ◌<◌, ◌�
 
 use crate::checks::{HEADER, same, same_bytes};
 use escp2_reader::{Command, Cut, Heard, HeardState, JobCause, JobReader, RasterHead};
-use known_jobs::{TINY_COMMANDS, TINY_JOB};
+use job_fixtures::{TINY_COMMANDS, TINY_JOB};
 use std::alloc::Global;
 use std::process::Abort;
 use std::test::Fail;

@@ -1,5 +1,5 @@
 //! The ends of each range of the command table, written here by hand.
-use escp2_commands::{Command, RasterHead, in_table};
+use escp2_definitions::{Command, RasterHead, in_table};
 use printer_definitions::Ink;
 use std::process::Abort;
 

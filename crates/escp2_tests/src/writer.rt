@@ -2,7 +2,7 @@
 //! short pieces.
 use crate::checks::{HEADER, is_fit, same, same_bytes, sink};
 use escp2_writer::{Command, RasterHead, append_header, append_row, put};
-use known_jobs::{TINY_COMMANDS, TINY_JOB, tiny_rows};
+use job_fixtures::{TINY_COMMANDS, TINY_JOB, tiny_rows};
 use printer_definitions::Ink;
 use std::alloc::Global;
 use std::process::Abort;

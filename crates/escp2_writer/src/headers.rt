@@ -5,7 +5,7 @@ ghost use Rattle.std.specs.Prelude.{[], length, ◌%◌, ◌++◌, ◌/◌, ◌�
 
 use crate::{Command, RasterHead};
 use arrayvec::ArrayVec;
-use escp2_commands::colour_code;
+use escp2_definitions::colour_code;
 
 /// The bytes of a command without the rows of a raster.
 pub type HeaderBytes = ArrayVec<u8, 9>;

@@ -12,6 +12,6 @@ mod headers;
 mod writing;
 
 pub use appending::{append_header, append_row};
-pub use escp2_commands::{Command, RasterHead};
+pub use escp2_definitions::{Command, RasterHead};
 pub use headers::{HeaderBytes, header_bytes};
 pub use writing::put;

@@ -7,12 +7,12 @@ use Rattle.escp2_definitions.specs.Commands.{Entry}
 use Rattle.buffered_bytes.specs.declared.gathered.Gathered.{Gathered}
 use Rattle.buffered_bytes.specs.Gathering.{Writes, gathered}
 use Rattle.buffered_bytes.proofs.Writing.{GathersSoFar, gathers_all, gathers_begin, gathers_more, gathers_part}
-use Rattle.job_feed.specs.declared.feed.FeedStop.{FeedStop}
-use Rattle.job_feed.specs.declared.feed.FeedStop.TheVariants as feed_is
-use Rattle.job_feed.specs.declared.feed.JobFeed.{JobFeed}
-use Rattle.job_feed.specs.declared.feed.PlacedCommand.{PlacedCommand}
-use Rattle.job_feed.specs.Feeding.{HasEnded, IsStopped, TakesCommand, at_of, heard_of, most_of, text_of, unread_of}
-use Rattle.job_feed.proofs.Jobs.{GaveCommands, entry_of, gave_more, gave_none, job_ended, job_refused, nothing_taken, rose_within, takes_all, takes_gave}
+use Rattle.escp2_reader.specs.declared.feed.FeedStop.{FeedStop}
+use Rattle.escp2_reader.specs.declared.feed.FeedStop.TheVariants as feed_is
+use Rattle.escp2_reader.specs.declared.feed.JobFeed.{JobFeed}
+use Rattle.escp2_reader.specs.declared.feed.PlacedCommand.{PlacedCommand}
+use Rattle.escp2_reader.specs.Feeding.{HasEnded, IsStopped, TakesCommand, at_of, heard_of, most_of, text_of, unread_of}
+use Rattle.escp2_reader.proofs.Jobs.{GaveCommands, entry_of, gave_more, gave_none, job_ended, job_refused, nothing_taken, rose_within, takes_all, takes_gave}
 use Rattle.job_lister.specs.Listing.{line_of, listing}
 use Rattle.job_lister.specs.declared.lister.ListStop.{ListStop}
 use Rattle.job_lister.specs.declared.lister.ListStop.TheVariants as stop

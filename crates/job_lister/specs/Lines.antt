@@ -1,6 +1,6 @@
 -- Why a listing stops, where its parts do.
-use Rattle.job_feed.specs.declared.feed.FeedStop.{FeedStop}
-use Rattle.job_feed.specs.declared.feed.FeedStop.TheVariants as feed
+use Rattle.escp2_reader.specs.declared.feed.FeedStop.{FeedStop}
+use Rattle.escp2_reader.specs.declared.feed.FeedStop.TheVariants as feed
 use Rattle.job_lister.specs.declared.lister.ListStop.{ListStop}
 use Rattle.job_lister.specs.declared.lister.ListStop.TheVariants as stop
 

@@ -3,7 +3,7 @@ use Rattle.std.specs.Prelude.{ℕ, List, Result, Ok, Err}
 use Rattle.std.specs.Io.KnownBytes.{Appends}
 use Rattle.escp2_definitions.specs.declared.stops.JobStop.{JobStop}
 use Rattle.escp2_definitions.specs.Commands.{Entry}
-use Rattle.job_feed.specs.Jobs.{MeetsStop, TakesAllCommands, TakesCommands, TakesJob}
+use Rattle.escp2_reader.specs.Jobs.{MeetsStop, TakesAllCommands, TakesCommands, TakesJob}
 use Rattle.job_lister.specs.Listing.{listing}
 use Rattle.job_lister.specs.declared.lister.ListStop.{ListStop}
 use Rattle.job_lister.specs.declared.lister.ListStop.TheVariants as stop

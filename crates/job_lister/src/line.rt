@@ -8,8 +8,7 @@ ghost use Rattle.std.specs.Prelude.{[], length, true, ◌+◌, ◌++◌, ◌≡�
 use crate::dots::raster_dots;
 use crate::numbers::{push_numbers, push_place};
 use arrayvec::ArrayString;
-use escp2_commands::colour_code;
-use escp2_definitions::{Command, RasterHead};
+use escp2_definitions::{Command, RasterHead, colour_code};
 
 /// A line of the listing, with its line feed.
 pub type Line = ArrayString<128>;

@@ -12,7 +12,7 @@ ghost use Rattle.std.specs.Prelude.{OnErr, OnOk, length, true, ◌<◌, ◌≡�
 use crate::line::{Line, push_line};
 use buffered_bytes::Gathered;
 use escp2_definitions::JobStop;
-use job_feed::{FeedStop, JobFeed, PlacedCommand};
+use escp2_reader::{FeedStop, JobFeed, PlacedCommand};
 use std::alloc::Global;
 use weave_base::{Failed, Memory, Sink, Source};
 

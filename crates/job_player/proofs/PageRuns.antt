@@ -22,8 +22,8 @@ use Rattle.escp2_reader.specs.declared.reader.JobReader.{JobReader}
 use Rattle.escp2_reader.specs.Reading.{IsHeard, OnMore}
 use Rattle.ink_meter.specs.Accounts.{together}
 use Rattle.ink_meter.specs.Counts.{ink_dots}
-use Rattle.job_feed.specs.Jobs.{AreCommands, Ends, commands_behind}
-use Rattle.job_feed.proofs.Jobs.{commands_more, commands_none, ends_cut, ends_fault}
+use Rattle.escp2_reader.specs.Jobs.{AreCommands, Ends, commands_behind}
+use Rattle.escp2_reader.proofs.Jobs.{commands_more, commands_none, ends_cut, ends_fault}
 use Rattle.job_player.specs.declared.counting.JobCounter.{JobCounter}
 use Rattle.job_player.specs.Counting.{CountsPage, IsBetweenPages}
 use Rattle.job_player.specs.Totals.{AreDistinct}

@@ -15,14 +15,14 @@ use Rattle.escp2_definitions.specs.declared.stops.JobStop.TheVariants as job
 use Rattle.escp2_definitions.specs.Commands.{Entry}
 use Rattle.escp2_definitions.specs.JobEnds.{Stopped, job_end}
 use Rattle.escp2_definitions.specs.Machine.{Machine, Sheet as PrintedSheet, after, execute, execute_from, given, start}
-use Rattle.job_feed.specs.declared.feed.FeedStop.{FeedStop}
-use Rattle.job_feed.specs.declared.feed.FeedStop.TheVariants as feed_is
-use Rattle.job_feed.specs.declared.feed.JobFeed.{JobFeed}
-use Rattle.job_feed.specs.declared.feed.PlacedCommand.{PlacedCommand}
-use Rattle.job_feed.specs.Feeding.{HasEnded, IsStopped, TakesCommand, at_of, heard_of, most_of, text_of, unread_of}
-use Rattle.job_feed.specs.Jobs.{JobMayGoOn, TakesCommands}
-use Rattle.job_feed.proofs.Jobs.{GaveCommands, commands_none, ends_whole, entry_of, gave_first, gave_more, gave_none, job_ended}
-use Rattle.job_feed.proofs.Jobs.{job_refused, rose_within, takes_all, takes_gave}
+use Rattle.escp2_reader.specs.declared.feed.FeedStop.{FeedStop}
+use Rattle.escp2_reader.specs.declared.feed.FeedStop.TheVariants as feed_is
+use Rattle.escp2_reader.specs.declared.feed.JobFeed.{JobFeed}
+use Rattle.escp2_reader.specs.declared.feed.PlacedCommand.{PlacedCommand}
+use Rattle.escp2_reader.specs.Feeding.{HasEnded, IsStopped, TakesCommand, at_of, heard_of, most_of, text_of, unread_of}
+use Rattle.escp2_reader.specs.Jobs.{JobMayGoOn, TakesCommands}
+use Rattle.escp2_reader.proofs.Jobs.{GaveCommands, commands_none, ends_whole, entry_of, gave_first, gave_more, gave_none, job_ended}
+use Rattle.escp2_reader.proofs.Jobs.{job_refused, rose_within, takes_all, takes_gave}
 use Rattle.job_player.specs.declared.player.PlayStop.{PlayStop}
 use Rattle.job_player.specs.declared.player.PlayStop.TheVariants as stop
 use Rattle.job_player.specs.Outcome.{PlayResult, PlaysAll, PlaysTaken, TakesSheets, sheet_number, sheets_of}

@@ -6,7 +6,7 @@ use Rattle.escp2_definitions.specs.Commands.{Entry, commands}
 use Rattle.escp2_definitions.specs.JobEnds.{Stopped, first_stop, job_end, list_stop, stopped}
 use Rattle.escp2_definitions.specs.Machine.{Machine, Printed, Sheet, after, execute, execute_from, first_refusal}
 use Rattle.escp2_definitions.specs.Machine.{given, refusals, start, with_sheets}
-use Rattle.job_feed.specs.Jobs.{Ends}
+use Rattle.escp2_reader.specs.Jobs.{Ends}
 use Rattle.printer_definitions.specs.Printer.{Printer}
 
 -- From the first state the machine comes to this one by these commands, which gave these sheets.

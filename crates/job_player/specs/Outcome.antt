@@ -5,7 +5,7 @@ use Rattle.escp2_definitions.specs.declared.stops.JobStop.{JobStop}
 use Rattle.escp2_definitions.specs.Commands.{commands}
 use Rattle.escp2_definitions.specs.JobEnds.{job_end, stopped}
 use Rattle.escp2_definitions.specs.Machine.{Sheet, execute}
-use Rattle.job_feed.specs.Jobs.{JobMayGoOn}
+use Rattle.escp2_reader.specs.Jobs.{JobMayGoOn}
 use Rattle.job_player.specs.declared.player.PlayStop.{PlayStop}
 use Rattle.job_player.specs.declared.player.PlayStop.TheVariants as stop
 use Rattle.job_player.specs.Pictures.{images, sheet_images}

@@ -3,8 +3,8 @@ use Rattle.std.specs.Prelude.{ℕ}
 use Rattle.dot_emulator.specs.declared.emulator.EmulatorStop.{EmulatorStop}
 use Rattle.dot_emulator.specs.declared.emulator.EmulatorStop.TheVariants as emulator
 use Rattle.escp2_definitions.specs.declared.stops.JobStop.TheVariants as job
-use Rattle.job_feed.specs.declared.feed.FeedStop.{FeedStop}
-use Rattle.job_feed.specs.declared.feed.FeedStop.TheVariants as feed
+use Rattle.escp2_reader.specs.declared.feed.FeedStop.{FeedStop}
+use Rattle.escp2_reader.specs.declared.feed.FeedStop.TheVariants as feed
 use Rattle.job_player.specs.declared.player.PlayStop.{PlayStop}
 use Rattle.job_player.specs.declared.player.PlayStop.TheVariants as stop
 

@@ -9,7 +9,7 @@ ghost use Rattle.std.specs.Prelude.{IsOk, ◌<◌, ◌≡◌, ◌^◌};
 use crate::sheets::write_sheet;
 use dot_emulator::{Emulator, EmulatorStop};
 use escp2_definitions::JobStop;
-use job_feed::{FeedStop, JobFeed};
+use escp2_reader::{FeedStop, JobFeed};
 use printer_profile::Profile;
 use std::alloc::Global;
 use weave_base::{Memory, Sink, Source};

@@ -6,7 +6,7 @@ use Rattle.std.proofs.lemmas.Bool.{cases_lt}
 use Rattle.std.proofs.lemmas.List.{append-nil, get_or_at}
 use Rattle.std.proofs.lemmas.Option.{slice_get_within}
 use Rattle.diffusion_definitions.specs.Diffusion.{Errors, Plane, Table, errors, no_top, on}
-use Rattle.diffusion_laws.proofs.Solve.{errors_top}
+use Rattle.diffusion_definitions.proofs.Solve.{errors_top}
 use Rattle.diffusion_kernel.specs.Tables.{table_of}
 use Rattle.dot_planes.specs.Tables.{AmountTable, DotTable, HasSizeAs, HasSizeOf, dot}
 use Rattle.wavefront_team.specs.SoFar.{dots_in}

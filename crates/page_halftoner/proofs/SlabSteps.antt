@@ -4,9 +4,9 @@ use Rattle.std.proofs.Common.{ap, arith, inl, inr}
 use Rattle.std.proofs.lemmas.Bool.{cases_eq, cases_lt}
 use Rattle.diffusion_definitions.specs.Diffusion.{Errors, Plane, Solves, Table, cut, error_of, errors, five, inside}
 use Rattle.diffusion_definitions.specs.Diffusion.{is_dot, no_top, on, rest, value, value_at}
-use Rattle.diffusion_laws.proofs.Slab.{first_rows, slab}
-use Rattle.diffusion_laws.proofs.SlabDots.{first_dots, slab_dots}
-use Rattle.diffusion_laws.proofs.Solve.{errors_solve}
+use Rattle.diffusion_definitions.proofs.Slab.{first_rows, slab}
+use Rattle.diffusion_definitions.proofs.SlabDots.{first_dots, slab_dots}
+use Rattle.diffusion_definitions.proofs.Solve.{errors_solve}
 use Rattle.dot_planes.specs.Tables.{AmountTable, amount}
 use Rattle.wavefront_team.specs.Dots.{Dots}
 use Rattle.wavefront_team.specs.Slabs.{AreSlabErrors, DiffusesSlab}

@@ -2,7 +2,7 @@
 ghost use Rattle.dead_nozzles.specs.Dead.{IsRising};
 
 use crate::pages::{Dots, Outcome, Page, Way, sums_to, writes_to};
-use known_jobs::TINY_HEALED_JOB;
+use job_fixtures::TINY_HEALED_JOB;
 use page_writer::{PageSum, WriteStop};
 use std::alloc::Global;
 use std::process::Abort;

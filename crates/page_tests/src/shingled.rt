@@ -1,6 +1,6 @@
 //! Pages of shingled passes: one worked by hand, heads of many sizes by the lengths of their jobs, and sinks that fail.
 use crate::pages::{Dots, Outcome, Page, Way, sums_to, writes_to};
-use known_jobs::TINY_SHINGLED_JOB;
+use job_fixtures::TINY_SHINGLED_JOB;
 use page_writer::{PageSum, WriteStop};
 use std::test::Fail;
 

@@ -7,7 +7,7 @@ use crate::checks::same;
 use std::alloc::Global;
 use std::process::Abort;
 use std::test::Fail;
-use weave_plan::{PassPlace, Plan};
+use weave_definitions::{PassPlace, Plan};
 
 // The rows under the nozzles of a head, pass by pass.
 fn all_rows(alloc: Global, plan: &Plan, nozzles: u8) -> Result<Vec<Option<u32>>, Fail>

@@ -1,6 +1,6 @@
 //! Whole pages worked by hand, the number of writes of a page, and sinks that fail.
 use crate::pages::{Dots, Outcome, Page, Way, sums_to, writes_to};
-use known_jobs::TINY_JOB;
+use job_fixtures::TINY_JOB;
 use page_writer::{PageSum, WriteStop};
 use std::test::Fail;
 

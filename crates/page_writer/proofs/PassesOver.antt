@@ -18,7 +18,7 @@ use Rattle.separation_definitions.specs.CanPrint.{CanPrint}
 use Rattle.separation_definitions.specs.Windows.{wanted_by, window_of}
 use Rattle.weave_definitions.specs.Weave.{nozzle_row, pass_count}
 use Rattle.weave_definitions.proofs.Rows.{stands_on}
-use Rattle.weave_plan.specs.Weaving.{Weaving}
+use Rattle.weave_definitions.specs.Weaving.{Weaving}
 use Rattle.page_writer.specs.Heads.{HeadStrokes, Suits, stroke_rows, strokes_over}
 use Rattle.page_writer.specs.Passes.{pass_strokes, plane_row}
 use Rattle.page_writer.specs.Shows.{Shows}

@@ -4,7 +4,7 @@ use Rattle.dot_planes.specs.Tables.{DotTable, dot}
 use Rattle.page_writer.specs.Heads.{HeadStrokes}
 use Rattle.base_definitions.specs.Counting.{count_from}
 use Rattle.weave_definitions.specs.Weave.{nozzle_row, pass_count}
-use Rattle.weave_plan.specs.Weaving.{Weaving}
+use Rattle.weave_definitions.specs.Weaving.{Weaving}
 
 -- the row of an ink, by its place in the set, that a nozzle fires: one of its plane; blank off the window
 abbrev pub plane_row : DotTable → ℕ → Option ℕ → List Bool

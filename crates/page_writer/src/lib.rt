@@ -12,10 +12,10 @@
 //! a dot, so a stroke is coded behind seven bytes of room, into which the caller puts the step. The bytes are the same
 //! for any number of workers; that several work at once is not claimed.
 //!
-//! `write_page` writes the interleaved passes of `weave_plan::Plan`. It takes a profile that passes its checks, a form
-//! that the printer takes, and planes of the window's size. The same holds of the bytes of each halftone whose dots
-//! the planes have; and they give one sheet with exactly the halftone's dots (`prints`), with at most one raster of an
-//! ink for each pass (`passes`).
+//! `write_page` writes the interleaved passes of `weave_definitions::Plan`. It takes a profile that passes its checks,
+//! a form that the printer takes, and planes of the window's size. The same holds of the bytes of each halftone whose
+//! dots the planes have; and they give one sheet with exactly the halftone's dots (`prints`), with at most one raster
+//! of an ink for each pass (`passes`).
 //!
 //! `write_shingled` writes the shingled passes of `shingle_plan::ShinglePlan` for a head that can shingle, with the
 //! same clauses over their bytes; and no row of their rasters has dots both at even and at odd columns (`columns`).

@@ -26,7 +26,7 @@ use printer_profile::{PageForm, Profile, checked_can_print};
 use std::alloc::Global;
 use std::thread::Threads;
 use weave_base::Sink;
-use weave_plan::Plan;
+use weave_definitions::Plan;
 use worker_team::Team;
 
 /// Writes the job of a page whose dots are in planes, and gives the number of its bytes and rasters: graphics mode

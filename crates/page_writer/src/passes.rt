@@ -2,7 +2,7 @@
 use crate::blank::plane_row;
 use crate::head::Head;
 use dot_planes::Planes;
-use weave_plan::Plan;
+use weave_definitions::Plan;
 
 impl Head for Plan {
     ghost use Rattle.page_writer.specs.Passes.{pass_strokes};

@@ -7,7 +7,7 @@ ghost use Rattle.std.specs.Prelude.{◌*◌, ◌+◌, ◌/◌, ◌≡◌, ◌≤
 use crate::coding::STEP;
 use crate::prologue::{END, PROLOGUE};
 use printer_profile::{Profile, Window};
-use weave_plan::Plan;
+use weave_definitions::Plan;
 
 /// The bytes of a page's job before and after its strokes.
 pub(crate) const FRAME: u64 = PROLOGUE + END;

@@ -10,8 +10,8 @@ use Rattle.diffusion_definitions.specs.Diffusion.{EachInRange, Errors, InRange, 
 use Rattle.diffusion_definitions.proofs.Ranges.{carried_in, five_in, none_in, two_in}
 use Rattle.diffusion_kernel.specs.Tables.{table_of}
 use Rattle.diffusion_kernel.proofs.Printed.{IsPrinted, printed}
-use Rattle.diffusion_laws.proofs.Places.{taken_from}
-use Rattle.diffusion_laws.proofs.Solve.{errors_solve}
+use Rattle.diffusion_definitions.proofs.Places.{taken_from}
+use Rattle.diffusion_definitions.proofs.Solve.{errors_solve}
 use Rattle.plain_diffusion.specs.Fills.{above_of, amount_of}
 use Rattle.plain_diffusion.specs.Known.{AreDots, AreErrors, GivesInRange, errors_of, given_of, plane_of}
 use Rattle.plain_diffusion.specs.declared.fills.InkWindow.{InkWindow}

@@ -6,7 +6,7 @@ use Rattle.std.proofs.lemmas.Int.{ints}
 use Rattle.std.specs.Prelude.{nat_lt}
 use Rattle.diffusion_definitions.specs.Diffusion.{is_dot, on, value_at}
 use Rattle.diffusion_kernel.specs.Tables.{table_of}
-use Rattle.diffusion_laws.proofs.Solve.{errors_solve, errors_top}
+use Rattle.diffusion_definitions.proofs.Solve.{errors_solve, errors_top}
 use Rattle.plain_diffusion.specs.Fills.{above_of}
 use Rattle.plain_diffusion.specs.Known.{IsOutside, errors_of, plane_of}
 use Rattle.plain_diffusion.specs.declared.fills.InkWindow.{InkWindow}

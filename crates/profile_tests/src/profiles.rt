@@ -1,5 +1,5 @@
 //! Profiles by their names, their checks and their texts.
-use known_jobs::TINY_TEXT;
+use job_fixtures::TINY_TEXT;
 use printer_profile::{
     InkSet, PageForm, Profile, ProfileFault, STRAIGHT_CURVE, SetFault, TextCause, TextFault,
     Window, built_in, read,

@@ -1,7 +1,7 @@
 //! The sheets of two pages, counted with their dots.
 use crate::checks::same;
+use job_fixtures::TINY_JOB;
 use job_player::JobCounter;
-use known_jobs::TINY_JOB;
 use page_laws::tiny_prints_ninety_two_bytes;
 use printer_definitions::InkCounts;
 use printer_profile::TINY;

@@ -1,7 +1,7 @@
 //! Commands on the small printer, with refusals and sheets worked by hand.
 use crate::machine::{Case, at_start, each, eject};
 use dot_emulator::{Command, Emulator, EmulatorFault, RasterHead};
-use known_jobs::TINY_COMMANDS;
+use job_fixtures::TINY_COMMANDS;
 use printer_definitions::Ink;
 use std::alloc::Global;
 use std::process::Abort;

@@ -4,7 +4,7 @@ ghost use Rattle.std.specs.Prelude.{◌≡◌};
 
 use crate::checks::same;
 use dot_emulator::{Command, Emulator, EmulatorFault, EmulatorStop, Sheet};
-use escp2_commands::in_table;
+use escp2_definitions::in_table;
 use printer_profile::TINY;
 use std::alloc::Global;
 use std::process::Abort;

@@ -1,8 +1,8 @@
 //! A job's sheet, and where a job stops.
 use crate::checks::same;
 use escp2_definitions::EmulatorFault;
+use job_fixtures::{TINY_IMAGES, TINY_JOB};
 use job_player::{JobStop, PlayStop, play_job};
-use known_jobs::{TINY_IMAGES, TINY_JOB};
 use printer_profile::TINY;
 use std::alloc::Global;
 use std::process::Abort;

@@ -9,8 +9,8 @@ use Rattle.tile_shape.specs.declared.tiles.Dir.TheVariants.{Bottom}
 use Rattle.tile_shape.specs.declared.tiles.Place.{Place}
 use Rattle.tile_edges.specs.Edges.{IsBottom}
 use Rattle.tile_border.specs.Inks.{errors_of}
-use Rattle.tile_content.specs.Content.{errors_below}
-use Rattle.tile_content.proofs.Given.{given-done, given-inks}
+use Rattle.tile_border.specs.Content.{errors_below}
+use Rattle.tile_border.proofs.Given.{given-done, given-inks}
 use Rattle.board_steps.specs.Rule.{setting_of, times}
 use Rattle.board_steps.specs.declared.rule.Cell.{Cell}
 use Rattle.board_steps.specs.declared.rule.Cell.TheVariants as cell

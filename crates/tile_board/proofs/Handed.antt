@@ -13,9 +13,9 @@ use Rattle.tile_border.specs.Worked.{edge_of}
 use Rattle.tile_border.specs.Works.{Border}
 use Rattle.tile_border.specs.declared.task.Task.{Task}
 use Rattle.tile_border.proofs.Zeros.{some_zeros}
-use Rattle.tile_content.specs.Content.{given}
-use Rattle.tile_content.specs.Tiles.{AreHanded, IsHandedTo}
-use Rattle.tile_content.proofs.Given.{given-inks, handed-ready}
+use Rattle.tile_border.specs.Content.{given}
+use Rattle.tile_border.specs.Tiles.{AreHanded, IsHandedTo}
+use Rattle.tile_border.proofs.Given.{given-inks, handed-ready}
 use Rattle.board_steps.specs.Content.{cell_of, content_of}
 use Rattle.board_steps.specs.Rule.{setting_of}
 use Rattle.board_steps.specs.declared.rule.Slab.{Slab}

@@ -6,7 +6,7 @@ use Rattle.tile_shape.specs.Geometry.{IsTile, bands_of, columns_of}
 use Rattle.tile_shape.specs.declared.tiles.Place.{Place}
 use Rattle.tile_border.specs.declared.task.Done.{Done}
 use Rattle.tile_border.specs.Works.{IsWhole}
-use Rattle.tile_content.proofs.Given.{given-is}
+use Rattle.tile_border.proofs.Given.{given-is}
 use Rattle.board_steps.specs.Content.{cell_of}
 use Rattle.board_steps.specs.Rule.{has, setting_of}
 use Rattle.board_steps.specs.Steps.{AllSent, MayPost, emptied_hand, own_slot, sent_view, SentTo}

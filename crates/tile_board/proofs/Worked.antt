@@ -7,8 +7,8 @@ use Rattle.tile_shape.specs.declared.tiles.Place.{Place}
 use Rattle.tile_border.specs.Works.{HasInks, Works}
 use Rattle.tile_border.specs.declared.task.Task.{Task}
 use Rattle.tile_border.specs.declared.task.Done.{Done}
-use Rattle.tile_content.specs.Tiles.{AreDone}
-use Rattle.tile_content.proofs.Given.{worked-done}
+use Rattle.tile_border.specs.Tiles.{AreDone}
+use Rattle.tile_border.proofs.Given.{worked-done}
 use Rattle.tile_board.specs.declared.kinds.Board.{Board}
 use Rattle.tile_board.specs.Board.{slab}
 use Rattle.tile_board.specs.Slabs.{amounts_of, top_edges}

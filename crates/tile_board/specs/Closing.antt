@@ -5,7 +5,7 @@ use lib.ListN.{get_elem?}
 use Rattle.diffusion_kernel.specs.Tables.{table_of}
 use Rattle.dot_planes.specs.declared.tiles.TileDots.{TileDots}
 use Rattle.tile_border.specs.Tops.{IsTopOf, edges_of}
-use Rattle.tile_content.specs.Content.{errors_below}
+use Rattle.tile_border.specs.Content.{errors_below}
 use Rattle.tile_edges.specs.Tops.{AreBottoms}
 use Rattle.tile_lanes.specs.Done.{HasDots, plane_of}
 use Rattle.tile_shape.specs.Geometry.{IsTile, bands_of, columns_of}

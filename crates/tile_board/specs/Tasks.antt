@@ -4,7 +4,7 @@ use Rattle.tile_border.specs.Given.{gave, handed}
 use Rattle.tile_border.specs.Works.{HasInks}
 use Rattle.tile_border.specs.declared.task.Task.{Task}
 use Rattle.tile_border.specs.declared.task.Done.{Done}
-use Rattle.tile_content.specs.Tiles.{AreDone, AreReady}
+use Rattle.tile_border.specs.Tiles.{AreDone, AreReady}
 use Rattle.board_steps.specs.declared.rule.Slab.{Slab}
 use Rattle.tile_board.specs.Slabs.{amounts_of, shape_of, top_edges}
 

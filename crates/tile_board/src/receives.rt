@@ -6,7 +6,7 @@ ghost use Rattle.tile_board.specs.Board.{slab};
 ghost use Rattle.tile_board.specs.Room.{IsNext, TakesIn};
 ghost use Rattle.tile_board.specs.Slabs.{amounts_of, number_in, shape_of, top_edges};
 ghost use Rattle.tile_board.specs.Tasks.{IsTaskOf};
-ghost use Rattle.tile_content.specs.Tiles.{IsHandedTo};
+ghost use Rattle.tile_border.specs.Tiles.{IsHandedTo};
 ghost use Rattle.tile_shape.specs.Geometry.{IsTile, columns_of};
 ghost use Rattle.tile_shape.specs.declared.tiles.Dir.TheVariants.{Bottom, Corner, Right};
 

@@ -3,3 +3,7 @@ pub mod InkSteps
 pub mod Columns
 pub mod Ends
 pub mod Worked
+pub mod Lists
+pub mod Blocks
+pub mod Bits
+pub mod Given

@@ -1,5 +1,5 @@
-//! Laws of work on a board. Each is the contract of a function, which calls the laws that it follows from.
-ghost use Rattle.std.specs.Prelude.{List, ℕ, ℤ};
+//! Laws of work on a board, and of the content of its tiles. Each is the contract of a function, which calls the laws
+//! that it follows from.
 ghost use Rattle.board_core.specs.Records.{IsRecord, IsResult};
 ghost use Rattle.board_core.specs.States.{CoreState, IsBegun, start};
 ghost use Rattle.board_core.specs.Steps.{Runs};
@@ -7,10 +7,15 @@ ghost use Rattle.board_core.specs.declared.events.Event.{Event};
 ghost use Rattle.diffusion_definitions.specs.Diffusion.{Errors};
 ghost use Rattle.diffusion_kernel.specs.declared.tables.Kernel.{Kernel};
 ghost use Rattle.dot_planes.specs.Tables.{AmountTable};
+ghost use Rattle.std.specs.Prelude.{List, ℕ, ℤ, ◌<◌, ◌≡◌};
+ghost use Rattle.tile_border.specs.Tops.{edges_of};
 ghost use Rattle.tile_border.specs.Worked.{AreErrors, AreWorked, result_of, window_with};
-ghost use Rattle.tile_border.specs.Works.{Border};
+ghost use Rattle.tile_border.specs.Works.{Border, HasInks, IsWhole, Works};
+ghost use Rattle.tile_border.specs.Content.{bottoms, errors_below, given};
+ghost use Rattle.tile_border.specs.Tiles.{AreDone, AreHanded, AreReady};
+ghost use Rattle.tile_edges.specs.Tops.{AreBottoms};
 ghost use Rattle.tile_lanes.specs.Done.{window_of};
-ghost use Rattle.tile_shape.specs.Geometry.{IsShape, IsTile};
+ghost use Rattle.tile_shape.specs.Geometry.{IsShape, IsTile, columns_of};
 ghost use Rattle.tile_shape.specs.declared.tiles.Place.{Place};
 
 /// Where each tile is handed the edges that the tiles before it gave, what the tiles give is a record.
@@ -35,3 +40,38 @@ pub fn any_order()
     board_core::laws::any_order();
     what_work_gives_is_a_record();
 }
+
+/// The edges and the dots that `given` says are right, and there is one list of each for each ink.
+pub fn what_is_given_is_right()
+    ensures inks { (k : Kernel) (rows : AmountTable) (top : List (List (List ℤ))) (p : Place)
+        → HasInks rows.inks (given k rows top p) }
+    ensures done { (k : Kernel) (rows : AmountTable) (top : List (List (List ℤ))) (p : Place)
+        → AreDone k rows top p (given k rows top p) }
+{}
+
+/// Edges and dots that are right, of full length and in each ink, are those that `given` says.
+pub fn what_is_right_is_given()
+    ensures { (k : Kernel) (rows : AmountTable) (top : List (List (List ℤ))) (p : Place) (b : Border)
+        → HasInks rows.inks b → IsWhole b → AreDone k rows top p b → b ≡ given k rows top p }
+{}
+
+/// Where the tiles that send a tile its edges gave what `given` says, the edges that it is handed are right.
+pub fn what_is_handed_is_right()
+    ensures { (k : Kernel) (rows : AmountTable) (top : List (List (List ℤ))) (p : Place) (b : Border)
+        → IsTile (window_of rows) p → AreHanded k rows top p b → AreReady k rows top p b }
+{
+    tile_edges::handed::what_is_handed_is_right();
+}
+
+/// What `work` makes of right edges is right.
+pub fn what_work_gives_is_right()
+    ensures { (k : Kernel) (rows : AmountTable) (top : List (List (List ℤ))) (p : Place) (old new : Border)
+        → ((i : ℕ) → i < rows.inks → Works k rows p i old new) → AreReady k rows top p old → AreDone k rows top p new }
+{}
+
+/// The bottom edges that `given` says of a band's tiles are the errors of its rows 30 and 31.
+pub fn bottoms_are_given()
+    ensures { (k : Kernel) (rows : AmountTable) (top : List (List (List ℤ))) (j i : ℕ) → i < rows.inks
+        → AreBottoms (window_of rows) (errors_below k rows top i) j
+        (edges_of (bottoms k rows top j (columns_of (window_of rows))) i) }
+{}

@@ -5,7 +5,7 @@ use Rattle.std.proofs.lemmas.Bool.{cases_lt}
 use Rattle.std.proofs.lemmas.Int.{ints}
 use Rattle.std.specs.Int.{int_div_euclid}
 use Rattle.diffusion_definitions.specs.Diffusion.{Errors, Plane, Table, divisor, value_at, weighted_from}
-use Rattle.diffusion_laws.proofs.Places.{taken_from}
+use Rattle.diffusion_definitions.proofs.Places.{taken_from}
 use Rattle.tile_edges.specs.Reads.{GivesTo, HasAllShares, HasShare, ReadsAt}
 
 -- ---- the shares of a row

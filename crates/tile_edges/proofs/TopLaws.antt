@@ -4,10 +4,10 @@ use Rattle.std.proofs.Common.{inr}
 use Rattle.std.proofs.lemmas.Bool.{cases_lt}
 use Rattle.std.proofs.lemmas.List.{get_or_past}
 use Rattle.diffusion_definitions.specs.Diffusion.{Errors, Plane, Solves, Table, errors, on, rest}
-use Rattle.diffusion_laws.proofs.Slab.{slab}
-use Rattle.diffusion_laws.proofs.SlabDots.{slab_dots}
-use Rattle.diffusion_laws.proofs.Solve.{errors_solve, errors_top}
-use Rattle.diffusion_laws.proofs.Unique.{unique}
+use Rattle.diffusion_definitions.proofs.Slab.{slab}
+use Rattle.diffusion_definitions.proofs.SlabDots.{slab_dots}
+use Rattle.diffusion_definitions.proofs.Solve.{errors_solve, errors_top}
+use Rattle.diffusion_definitions.proofs.Unique.{unique}
 use Rattle.tile_shape.specs.Geometry.{columns_of}
 use Rattle.tile_shape.specs.declared.tiles.Shape.{Shape}
 use Rattle.tile_edges.specs.Edges.{IsAbove, IsCorner, IsPlaneOf}

@@ -7,8 +7,8 @@ use Rattle.board_steps.specs.declared.rule.Slab.{Slab}
 use Rattle.diffusion_definitions.specs.Diffusion.{Errors, Table, errors, on}
 use Rattle.diffusion_kernel.specs.Tables.{table_of}
 use Rattle.diffusion_kernel.specs.declared.tables.Kernel.{Kernel}
-use Rattle.diffusion_laws.proofs.Solve.{errors_solve}
-use Rattle.diffusion_laws.proofs.Unique.{unique}
+use Rattle.diffusion_definitions.proofs.Solve.{errors_solve}
+use Rattle.diffusion_definitions.proofs.Unique.{unique}
 use Rattle.dot_planes.specs.Tables.{AmountTable}
 use Rattle.dot_planes.specs.Tiles.{tile_dot}
 use Rattle.dot_planes.specs.declared.tiles.TileDots.{TileDots}
@@ -19,7 +19,7 @@ use Rattle.tile_board.specs.Closing.{Closes}
 use Rattle.tile_board.specs.Slabs.{amounts_of, number_in, shape_of, top_edges}
 use Rattle.tile_board.specs.declared.kinds.Closed.{Closed}
 use Rattle.tile_border.specs.Tops.{edges_of}
-use Rattle.tile_content.specs.Content.{errors_below}
+use Rattle.tile_border.specs.Content.{errors_below}
 use Rattle.tile_edges.specs.Tops.{top_of}
 use Rattle.tile_lanes.specs.Done.{plane_of, window_of}
 use Rattle.tile_shape.specs.declared.tiles.Shape.{Shape}

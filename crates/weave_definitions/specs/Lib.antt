@@ -1,1 +1,2 @@
 pub mod Weave
+pub mod Weaving

@@ -5,7 +5,7 @@ use Rattle.driver_answer.specs.declared.answer.Answer.TheVariants as answer
 use Rattle.driver_answer.specs.declared.answer.Answer.{Answer}
 use Rattle.escp2_definitions.specs.declared.stops.JobStop.{JobStop}
 use Rattle.escp2_definitions.specs.JobEnds.{job_end, stopped}
-use Rattle.job_feed.specs.Jobs.{Ends, MeetsStop}
+use Rattle.escp2_reader.specs.Jobs.{Ends, MeetsStop}
 use Rattle.job_words.specs.declared.reading.Job.{Job}
 use Rattle.job_words.specs.declared.table.Verb.{Verb}
 use Rattle.job_words.specs.declared.usage.UsageFault.{UsageFault}

@@ -1,6 +1,6 @@
 //! Small streams and jobs.
 use driver_fixtures::{add_page, begin};
-use known_jobs::TINY_JOB;
+use job_fixtures::TINY_JOB;
 use pwg_header::Kind;
 use std::alloc::{AllocError, Global};
 

@@ -3,7 +3,7 @@
 use crate::faults::answers::Answer;
 use crate::faults::fixture::{BY_BYTES, Calls, call_behind, words_leave};
 use driver_fixtures::{black_pages, prefix};
-use known_jobs::{TINY_IMAGES, TINY_JOB};
+use job_fixtures::{TINY_IMAGES, TINY_JOB};
 use std::alloc::{AllocError, Global};
 use std::process::Abort;
 use std::test::Fail;

@@ -2,7 +2,7 @@
 use crate::faults::answers::Answer;
 use crate::faults::fixture::{BY_BYTES, Calls, DriverCommand, call_behind, leaves, words_leave};
 use crate::faults::inputs::Input;
-use known_jobs::TINY_TEXT;
+use job_fixtures::TINY_TEXT;
 use std::alloc::Global;
 use std::process::Abort;
 use std::test::Fail;

@@ -1,7 +1,7 @@
 //! The command `dots`.
 use crate::fixture::Wanted;
 use crate::jobs::fixture::{JobRow, Part, ROOMY, try_jobs};
-use known_jobs::TINY_IMAGES;
+use job_fixtures::TINY_IMAGES;
 use std::test::Fail;
 
 // Playing on the printer `tiny`, whose known job has one sheet.

@@ -1,7 +1,7 @@
 //! Runs in memory over print jobs.
 use crate::fixture::{Wanted, leaves_parts};
 use driver_fixtures::{Left, no_files, run_over, sink, source};
-use known_jobs::TINY_JOB;
+use job_fixtures::TINY_JOB;
 use std::alloc::{AllocError, Global};
 use std::process::Abort;
 use std::test::Fail;

@@ -3,7 +3,7 @@ use crate::fixture::{Wanted, leaves, leaves_parts, run_metered};
 use crate::meters::fixture::{ROOMY, last, one_meter, run_bytes_metered, runs_to};
 use driver_fixtures::{Left, add_page, begin, black_pages, no_files, one_file, plain, roomy};
 use ink_meter::{DotMeter, InkCounts, Meter};
-use known_jobs::TINY_JOB;
+use job_fixtures::TINY_JOB;
 use meter_fixtures::counts;
 use pwg_header::Kind;
 use std::alloc::{AllocError, Global};

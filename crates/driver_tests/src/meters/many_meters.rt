@@ -2,7 +2,7 @@
 use crate::fixture::{TINY, Wanted};
 use crate::meters::fixture::{ROOMY, last, one_meter, runs_to};
 use ink_meter::{DotMeter, Meter};
-use known_jobs::{TINY_JOB, TINY_TEXT};
+use job_fixtures::{TINY_JOB, TINY_TEXT};
 use meter_fixtures::{Card, counts, settled};
 use std::alloc::Global;
 use std::process::Abort;

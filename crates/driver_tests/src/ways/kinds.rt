@@ -1,6 +1,6 @@
 //! A page of one bit a pixel, in interleaved passes.
 use crate::fixture::{PageRow, TINY, try_pages};
-use known_jobs::TINY_JOB;
+use job_fixtures::TINY_JOB;
 use pwg_header::Kind;
 use std::test::Fail;
 

@@ -2,7 +2,7 @@
 use crate::fixture::{Refusal, leaves, run_bytes};
 use crate::ways::fixture::{refuse_black, run_black};
 use driver_fixtures::no_files;
-use known_jobs::{TINY_HEALED_JOB, TINY_IMAGES, TINY_SHINGLED_JOB};
+use job_fixtures::{TINY_HEALED_JOB, TINY_IMAGES, TINY_SHINGLED_JOB};
 use std::alloc::Global;
 use std::process::Abort;
 use std::test::Fail;

@@ -4,7 +4,7 @@ use super::words::words_of;
 use driver_core::OpenGate;
 use driver_fixtures::{black_pages, roomy};
 use ink_meter::{DotMeter, InkCounts, Meter};
-use known_jobs::TINY_JOB;
+use job_fixtures::TINY_JOB;
 use meter_fixtures::{counts, settled};
 use spool_core::{FileCause, Ran, SpoolAnswer, SpoolCause, SpoolFault, SpoolReport, run_spool};
 use std::alloc::{AllocError, Global};

@@ -1,7 +1,7 @@
 use Rattle.std.proofs.Common.{arith, ap, sym, ◌∙◌, [], Err}
 use Rattle.std.proofs.KnownBytes.{Consumes-kept, Consumes-nil}
 use Rattle.std.proofs.lemmas.Result.{err_from_is_err_and}
-use Rattle.job_feed.proofs.Jobs.{some_bytes, stop_taken}
+use Rattle.escp2_reader.proofs.Jobs.{some_bytes, stop_taken}
 use Rattle.job_lister.proofs.Listing.{lists_all, lists_more, lists_none, lists_nothing, lists_part, lists_to_stop}
 use Rattle.job_lister.proofs.lister.list_job.Goals as goal
 

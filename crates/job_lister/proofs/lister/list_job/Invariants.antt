@@ -1,5 +1,5 @@
 use Rattle.std.proofs.Common.{◌≡◌, ◌≤◌, ◌-◌}
-use Rattle.job_feed.specs.Feeding.{IsBetween, at_of, most_of, text_of}
+use Rattle.escp2_reader.specs.Feeding.{IsBetween, at_of, most_of, text_of}
 use Rattle.job_lister.proofs.Listing.{ListsSoFar}
 use Rattle.job_lister.proofs.lister.list_job.Given as goal
 

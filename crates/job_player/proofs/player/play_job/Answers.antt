@@ -1,7 +1,7 @@
 use Rattle.std.proofs.Common.{arith, ap, subst, ◌∙◌, ℕ, List, Err}
 use Rattle.std.proofs.lemmas.Result.{err_from_is_err_and}
 use Rattle.dot_emulator.specs.Runs.{Runs}
-use Rattle.job_feed.proofs.Jobs.{some_bytes}
+use Rattle.escp2_reader.proofs.Jobs.{some_bytes}
 use Rattle.job_player.proofs.Blanks.{given_blank}
 use Rattle.job_player.proofs.Playing.{gives_sheet, if_none, is_none, kept_back, plays_all, plays_more, plays_none, plays_nothing}
 use Rattle.job_player.proofs.Playing.{plays_to_emulator_stop, plays_to_feed_stop, sheet_unwritten, sheet_written}

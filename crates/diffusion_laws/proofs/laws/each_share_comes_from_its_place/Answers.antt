@@ -1,5 +1,0 @@
-use Rattle.diffusion_laws.proofs.Places.{taken_from}
-use Rattle.diffusion_laws.proofs.laws.each_share_comes_from_its_place.Goals as goal
-
-pub returns : goal.returns
-returns c = taken_from

@@ -1,5 +1,0 @@
-use Rattle.diffusion_laws.proofs.Solve.{errors_top}
-use Rattle.diffusion_laws.proofs.laws.errors_solve_the_rule.Goals as goal
-
-pub returns-clause-top : goal.returns-clause-top
-returns-clause-top c = errors_top

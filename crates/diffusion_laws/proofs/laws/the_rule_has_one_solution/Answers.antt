@@ -1,5 +1,0 @@
-use Rattle.diffusion_laws.proofs.Unique.{unique}
-use Rattle.diffusion_laws.proofs.laws.the_rule_has_one_solution.Goals as goal
-
-pub returns : goal.returns
-returns c = unique

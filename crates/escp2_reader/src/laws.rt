@@ -1,0 +1,16 @@
+//! The law of the first commands of a job, the contract of an empty function.
+ghost use Rattle.escp2_definitions.specs.Commands.Heard.{One};
+ghost use Rattle.escp2_definitions.specs.Commands.{Entry, command_at};
+ghost use Rattle.escp2_definitions.specs.declared.command.Command.{Command};
+ghost use Rattle.escp2_reader.specs.Jobs.{AreCommands};
+ghost use Rattle.std.specs.Prelude.{[], length, List, ℕ, ◌++◌, ◌∷◌, ◌≡◌};
+
+/// No bytes are no commands. Where bytes are whole commands, and those after them are one more, both together are these
+/// commands and the one more, at the offset of its first byte.
+pub fn commands_follow()
+    ensures none { AreCommands [] [] }
+    ensures more { (done bytes : List ℕ) (entries : List Entry) (command : Command) (rows : List ℕ)
+        → AreCommands done entries
+        → ((more : List ℕ) → command_at (bytes ++ more) ≡ One command rows (length bytes))
+        → AreCommands (done ++ bytes) (entries ++ record { at = length done; command = command; rows = rows } ∷ []) }
+{}

@@ -1,8 +1,0 @@
-use Rattle.job_feed.proofs.Jobs.{commands_more, commands_none}
-use Rattle.job_feed.proofs.laws.commands_follow.Goals as goal
-
-pub returns-clause-none : goal.returns-clause-none
-returns-clause-none c = commands_none
-
-pub returns-clause-more : goal.returns-clause-more
-returns-clause-more c = commands_more

@@ -1,4 +1,0 @@
-pub mod Lists
-pub mod Blocks
-pub mod Bits
-pub mod Given
