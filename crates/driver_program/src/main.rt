@@ -9,17 +9,22 @@ mod help;
 
 use driver_core::{Answer, OpenGate, UsageCause, UsageFault, run, tell};
 use help::TEXTS;
-use program_words::{Asked, NoWords, Words, dot_meter, read_command_line, settle_run, show_text};
+use ink_meter::{DotMeter, Meter, can_settle, settle};
+use program_words::{Asked, NoWords, Words, read_command_line, show_text};
 use std::process::ExitCode;
 use std::thread::Threads;
 use weave_base::{DirShelf, StdSink, StdSource};
 
 // A run with the words, and its status.
 fn run_words<R: Threads + Sync>(rt: &HostRuntime, threads: &R, words: &Words) -> u8 {
+    let mut meters: Vec<Box<dyn Meter>> = Vec::new(rt.alloc());
     // memory runs out before anything is written
-    let Ok(mut meters) = dot_meter(rt.alloc()) else {
+    let Ok(meter) = Box::new(rt.alloc(), DotMeter::make()) else {
         return Answer::Memory.status();
     };
+    if meters.push(meter).is_err() {
+        return Answer::Memory.status();
+    }
     let status = run(
         threads,
         rt.alloc(),
@@ -31,7 +36,9 @@ fn run_words<R: Threads + Sync>(rt: &HostRuntime, threads: &R, words: &Words) ->
         &OpenGate,
         &mut meters,
     );
-    settle_run(meters);
+    if can_settle(&meters) {
+        settle(meters);
+    }
     status
 }
 

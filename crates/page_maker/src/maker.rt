@@ -31,7 +31,7 @@ impl Model for PageMaker {
     ghost view = { λ m. drop m.given m.piece.items ++ left_of m.pieces };
 
     ghost invariant = { λ m.
-        (m.given ≤ vec_len m.piece) × (most_bytes (form_of m.pieces) ≤ vec_capacity m.piece) };
+        (m.given ≤ vec_len m.piece) × (most_bytes (pieces_form m.pieces) ≤ vec_capacity m.piece) };
 }
 
 impl PageMaker {

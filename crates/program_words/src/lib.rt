@@ -1,5 +1,4 @@
-//! What the programs have in common: what they take from their command lines, what they say about themselves, and
-//! their meter.
+//! What the programs have in common: what they take from their command lines, and what they say about themselves.
 //!
 //! `read_words` gives the words after the program's name, and `read_command_line` what they ask for. No clause says
 //! which they are, since the system gives them; the stored runs of the programs test it. `text_of` gives exactly the
@@ -9,11 +8,9 @@
 
 mod causes;
 mod command_line;
-mod meters;
 mod texts;
 
 pub use causes::{CAUSES, CauseText};
 pub use command_line::{Asked, NoWords, read_command_line, read_words, show_text};
-pub use meters::{dot_meter, settle_run};
 pub use texts::{ProgramTexts, text_of};
 pub use weave_base::Words;

@@ -8,7 +8,8 @@ mod help;
 
 use driver_core::OpenGate;
 use help::TEXTS;
-use program_words::{Asked, NoWords, Words, dot_meter, read_command_line, settle_run, show_text};
+use ink_meter::{DotMeter, Meter, can_settle, settle};
+use program_words::{Asked, NoWords, Words, read_command_line, show_text};
 use spool_core::{SpoolAnswer, SpoolCause, SpoolFault, run_spool, tell};
 use std::process::ExitCode;
 use std::sync::Wait;
@@ -20,10 +21,14 @@ const WRITE_FAILED: u8 = 5;
 
 // A run with the words, and its status.
 fn run_words<R: Threads + Wait + Sync>(rt: &HostRuntime, threads: &R, words: &Words) -> u8 {
+    let mut meters: Vec<Box<dyn Meter>> = Vec::new(rt.alloc());
     // memory runs out before anything is written
-    let Ok(mut meters) = dot_meter(rt.alloc()) else {
+    let Ok(meter) = Box::new(rt.alloc(), DotMeter::make()) else {
         return SpoolAnswer::Memory.status();
     };
+    if meters.push(meter).is_err() {
+        return SpoolAnswer::Memory.status();
+    }
     let report = run_spool(
         threads,
         rt.alloc(),
@@ -34,7 +39,9 @@ fn run_words<R: Threads + Wait + Sync>(rt: &HostRuntime, threads: &R, words: &Wo
         &OpenGate,
         &mut meters,
     );
-    settle_run(meters);
+    if can_settle(&meters) {
+        settle(meters);
+    }
     report.status
 }
 
