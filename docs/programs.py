@@ -6,7 +6,7 @@ from pathlib import Path
 
 MAN = "packaging/man/"
 BASH, ZSH, USING = "packaging/completion/jinthbao.bash", "packaging/completion/_jinthbao", "docs/USING.md"
-DESCRIBE = "queue/describe.py"
+DESCRIBE, PROOF = "queue/describe.py", "docs/PROOF.md"
 # Where the values of a word are listed: all that stands in the group, apart from these words and what is in brackets
 FILLERS = {"Cm", "None", "and", "or"}
 VALUES = [
@@ -101,7 +101,7 @@ def statuses(name, told, text):
             re.findall(r'^\.It (\d) Ta (?:Li "(.*?)"|(none)) Ta', text(page), re.MULTILINE)}
     if said != lines:
         yield f"{page}:1: the statuses differ from --help: {sorted(set(said.items()) ^ set(lines.items()))}"
-    file = USING if "spool" in name else "README.md"
+    file = USING if "spool" in name else PROOF
     rows = re.findall(r"^\| (\d) \| (?:[^|]* \|)*? ?(?:`([^`|]*)`(?:; none [^|]*)?|(none)) \|",
                       text(file).partition("\n| Status |")[2].partition("\n\n")[0], re.MULTILINE)
     if (said := {number: line or none for number, line, none in rows}) != lines:
