@@ -1,10 +1,10 @@
 //! The whole run of the driver: words and bytes in, bytes, a status and an error line out.
 //!
-//! `run` promises `AllPromises`: the record `Promises`, whatever the command, and a record for each command. The README
-//! lists their fields. The first, `answered`, says that there is an answer: its status is returned, its cause holds for
-//! what was read and written (`Outcome`), and the error sink got its line, or a proper prefix of it after a failed
-//! write (`Told`). The shelf is unchanged where the profile is built in (`unasked`) and where a word is refused
-//! (`refused_unasked`).
+//! `run` promises `AllPromises`: the record `Promises`, whatever the command, and a record for each command.
+//! `docs/PROOF.md` lists their fields. The first, `answered`, says that there is an answer: its status is returned, its
+//! cause holds for what was read and written (`Outcome`), and the error sink got its line, or a proper prefix of it
+//! after a failed write (`Told`). The shelf is unchanged if the profile is built in (`unasked`), and if a word is
+//! refused (`refused_unasked`).
 //!
 //! A run prepares a command and performs it: `prepare` reads the words, sets the caps, finds the profile, and checks
 //! that its head can go over pages as the words ask; `perform` does the command over input, output and meters.
