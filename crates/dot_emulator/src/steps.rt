@@ -8,10 +8,8 @@ ghost use Rattle.std.specs.Prelude.{IfOk, List, Ok, OnOk, true, unwrap_or, â—Œ<â
 
 use crate::state::{Margins, State};
 use crate::{Command, EmulatorFault};
+use base_definitions::LONGEST_PAGE;
 use printer_definitions::Ink;
-
-// The longest page, in 1/3600 inch: 22 inches.
-const LONGEST_PAGE: u32 = 79_200;
 
 impl State {
     /// Starts again, if the sheet has no dots.

@@ -1,12 +1,17 @@
 //! A row of all tiles of a band, laid over a packed row at once.
 ghost use Rattle.dot_planes.specs.Bands.{HasTileRow, HasTileRows};
 ghost use Rattle.dot_planes.specs.Tables.{row_dot, row_len};
-ghost use Rattle.base_definitions.specs.Limits.{most_columns};
+ghost use Rattle.base_definitions.specs.Limits.{most_columns, most_row_bytes};
 ghost use Rattle.std.specs.Prelude.{false, length, slice_index, ℕ, ◌*◌, ◌+◌, ◌<◌, ◌≡◌, ◌≤◌};
 
 use crate::bit_rows::{row_eight, row_part};
 use crate::places::are_bytes;
 use crate::tiles::{NO_DOTS, TileDots};
+use base_definitions::MOST_ROW_BYTES;
+
+/// The bytes of a row of the widest band: the skew moves a row by up to 62 columns, and the last tile has up to 63
+/// columns more than the row.
+pub(crate) const MOST_BAND_BYTES: usize = MOST_ROW_BYTES + 16;
 
 // The eight bytes of row r of a tile. An ink that the tile does not have has no dots.
 #[inline(always)]
@@ -89,7 +94,7 @@ pub(crate) fn put_wide(row: &mut [u8], width: usize, r: usize, wide: &[u8])
     requires width { width ≤ most_columns }
     requires row { length row.old ≡ row_len width }
     requires r { r < 32 }
-    requires wide { length wide.now ≡ 1040 }
+    requires wide { length wide.now ≡ most_row_bytes + 16 }
     ensures dots { (x : ℕ) → x < width → row_dot row.new x ≡ row_dot wide.now (x + 2 * r) }
     ensures spare { (x : ℕ) → width ≤ x → row_dot row.new x ≡ false }
     ensures len { length row.new ≡ length row.old }

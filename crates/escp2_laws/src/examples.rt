@@ -19,7 +19,7 @@ ghost use Rattle.escp2_laws.specs.Examples.{black_row, blank_row, down_to_12, ei
 ghost use Rattle.escp2_laws.specs.Examples.{listing, listing_overprinted, margins_12, one_dot, refusal, refused, said};
 ghost use Rattle.escp2_laws.specs.Examples.{sheet_refusal, three_nozzles, unit_1, unit_10, unit_5};
 ghost use Rattle.printer_definitions.specs.declared.inks.Ink.TheVariants.{Black};
-ghost use Rattle.std.specs.Prelude.{None, Some, [], length, replicate, take, ◌+◌, ◌++◌, ◌∷◌, ◌≡◌};
+ghost use Rattle.std.specs.Prelude.{None, Some, [], length, replicate, take, ◌%◌, ◌+◌, ◌++◌, ◌-◌, ◌/◌, ◌∷◌, ◌≡◌};
 
 /// The bytes of a job with coded rows, and its commands with the places of their first bytes.
 pub fn listing_is_read()
@@ -122,9 +122,9 @@ pub fn pages_are_limited()
 /// A row has as many columns as a page, at most: a dot in the last of them, and one to the right of it.
 pub fn columns_are_limited()
     ensures last { refusal (graphics ++ unit_10 ++ length_12 ++ margins_12
-        ++ 0x1B ∷ 0x24 ∷ 0xFE ∷ 0x1F ∷ one_dot) ≡ None }
+        ++ 0x1B ∷ 0x24 ∷ (last_column - 1) % 256 ∷ (last_column - 1) / 256 ∷ one_dot) ≡ None }
     ensures past { refusal (graphics ++ unit_10 ++ length_12 ++ margins_12
-        ++ 0x1B ∷ 0x24 ∷ 0xFF ∷ 0x1F ∷ one_dot) ≡ refused 32 OffSheet }
+        ++ 0x1B ∷ 0x24 ∷ last_column % 256 ∷ last_column / 256 ∷ one_dot) ≡ refused 32 OffSheet }
 {}
 
 /// The greatest numbers that are read, and those one greater.
@@ -140,13 +140,13 @@ pub fn numbers_are_limited()
     ensures down_past { command_at (0x1B ∷ 0x28 ∷ 0x56 ∷ 0x02 ∷ 0x00 ∷ 0x00 ∷ 0x80 ∷ []) ≡ Wrong 5 BadValue }
     ensures across { command_at (0x1B ∷ 0x24 ∷ 0xFF ∷ 0x7F ∷ []) ≡ One (c.Across 32767) [] 4 }
     ensures across_past { command_at (0x1B ∷ 0x24 ∷ 0x00 ∷ 0x80 ∷ []) ≡ Wrong 2 BadValue }
-    ensures columns_past { command_at (0x1B ∷ 0x2E ∷ 0x00 ∷ 0x0A ∷ 0x0A ∷ 0x01 ∷ 0x00 ∷ 0x20 ∷ []) ≡
+    ensures columns_past { command_at (0x1B ∷ 0x2E ∷ 0x00 ∷ 0x0A ∷ 0x0A ∷ 0x01 ∷ (last_column + 1) % 256 ∷ (last_column + 1) / 256 ∷ []) ≡
         Wrong 6 BadValue }
 {}
 
 /// The widest row is read.
 pub fn widest_row_is_read()
-    ensures { command_at (0x1B ∷ 0x2E ∷ 0x00 ∷ 0x0A ∷ 0x0A ∷ 0x01 ∷ 0xFF ∷ 0x1F ∷ replicate most_row_bytes 0) ≡
+    ensures { command_at (0x1B ∷ 0x2E ∷ 0x00 ∷ 0x0A ∷ 0x0A ∷ 0x01 ∷ last_column % 256 ∷ last_column / 256 ∷ replicate most_row_bytes 0) ≡
         One (c.Raster (record { c = 0; v = 10; h = 10; m = 1; n = last_column })) (replicate most_row_bytes 0) (8 + most_row_bytes) }
 {}
 

@@ -13,6 +13,7 @@ use Rattle.dot_planes.specs.Tables.{DotTable, dot}
 use Rattle.escp2_definitions.specs.Machine.{Dot, Sheet as PrintedSheet, is_at}
 use Rattle.ink_meter.specs.Counts.{dots_of, halftone_dots, ink_dots}
 use Rattle.ink_meter.proofs.PlaneDots.{plane-most}
+use Rattle.base_definitions.specs.Limits.{most_columns}
 use Rattle.job_player.specs.Totals.{AreDistinct, AreFew}
 use Rattle.page_definitions.specs.Dots.{Halftone, HasDots as HasHalftone, dots_wanted}
 use Rattle.page_definitions.specs.Exact.{Exactly}
@@ -255,7 +256,7 @@ counts_are p s sheet dots n some some' is exactly distinct planes =
     (planes.m ∙ plane-dots p s sheet dots Magenta some some' is exactly distinct)
     (planes.y ∙ plane-dots p s sheet dots Yellow some some' is exactly distinct)
 
-pub counts_few : (n : InkCounts) (t : DotTable) → t.width ≤ 8191 → t.rows < 4294967296 → ArePlanes n t → AreFew 1 n
+pub counts_few : (n : InkCounts) (t : DotTable) → t.width ≤ most_columns → t.rows < 4294967296 → ArePlanes n t → AreFew 1 n
 counts_few n t narrow short planes = (
   omega (arith, short, planes.k, plane-most (dot t) t.width t.rows 0 narrow),
   omega (arith, short, planes.c, plane-most (dot t) t.width t.rows 1 narrow),

@@ -2,6 +2,7 @@
 //! results worked by hand.
 #![tactic(auto, unfolding(diffusion_definitions::specs::Diffusion::errors, diffusion_definitions::specs::Diffusion::row_errors, diffusion_definitions::specs::Diffusion::value, escp2_definitions::specs::Commands::command_at, escp2_definitions::specs::Commands::commands_from, escp2_definitions::specs::Least::cost_from, escp2_definitions::specs::Least::costs, escp2_definitions::specs::Least::equal_at, escp2_definitions::specs::Least::least, escp2_definitions::specs::Least::least_packet, escp2_definitions::specs::Least::least_row, escp2_definitions::specs::Least::literals, escp2_definitions::specs::Least::packets_at, escp2_definitions::specs::Least::packets_from, escp2_definitions::specs::Least::runs, escp2_definitions::specs::Machine::execute_from, escp2_definitions::specs::Machine::rows_dots, escp2_definitions::specs::RowCode::row_at, escp2_definitions::specs::RowCode::rows_at, page_definitions::specs::PageBytes::halftone_bytes, page_definitions::specs::PageBytes::page_bytes))]
 
+ghost use Rattle.base_definitions.specs.Limits.{most_columns, most_rows};
 ghost use Rattle.diffusion_definitions.specs.Diffusion.{floyd};
 ghost use Rattle.escp2_definitions.specs.Commands.{commands};
 ghost use Rattle.escp2_definitions.specs.Machine.{execute};
@@ -136,9 +137,9 @@ pub fn pages_that_are_taken()
       hdpi = 360;
       vdpi = 360;
       least_width = 1;
-      most_width = 8191;
+      most_width = most_columns;
       least_height = 1;
       most_height = 7920;
     } }
-    ensures at_720 { (wanted_by (record tiny1 { vdpi = 720 })).most_height ≡ 15840 }
+    ensures at_720 { (wanted_by (record tiny1 { vdpi = 720 })).most_height ≡ most_rows }
 {}

@@ -1,6 +1,7 @@
 -- How many tiles there are, and which tile an edge comes from or goes to.
-use Rattle.std.proofs.Common.{◌≡◌, ℕ, ◌+◌, ◌-◌, ◌*◌, ◌^◌, ◌<◌, ◌≤◌, ◌⊎◌, Option, Some, None, refl, sym, ◌∙◌, ap, arith, inl, inr, subst}
+use Rattle.std.proofs.Common.{◌≡◌, ℕ, ◌+◌, ◌-◌, ◌*◌, ◌^◌, ◌/◌, ◌<◌, ◌≤◌, ◌⊎◌, Option, Some, None, refl, sym, ◌∙◌, ap, arith, inl, inr, subst}
 use Rattle.std.proofs.Math.Nat.{mul-le-mul_left}
+use Rattle.base_definitions.specs.Limits.{most_columns, most_rows}
 use Rattle.tile_shape.specs.Geometry.{IsNeeded, IsReceiver, IsShape, IsTile, bands_of, columns_of}
 use Rattle.tile_shape.specs.declared.tiles.Dir.{Dir}
 use Rattle.tile_shape.specs.declared.tiles.Dir.TheVariants.{Right, Bottom, Corner}
@@ -17,11 +18,11 @@ pub few-tiles : (s : Shape) → IsShape s → bands_of s * columns_of s < 2 ^ 32
 few-tiles s sizes =
     let b : ℕ = bands_of s in
     let c : ℕ = columns_of s in
-    let few_bands : b ≤ 495 = let h = sizes.most_height in omega arith in
-    let few_columns : c ≤ 129 = let h = sizes.most_width in omega arith in
+    let few_bands : b ≤ (most_rows + 31) / 32 = let h = sizes.most_height in omega arith in
+    let few_columns : c ≤ (most_columns + 125) / 64 = let h = sizes.most_width in omega arith in
     let product = mul-le-mul_left b few_columns in
     let all : ℕ = b * c in
-    let product' : all ≤ b * 129 = product in
+    let product' : all ≤ b * ((most_columns + 125) / 64) = product in
     let answer : all < 2 ^ 32 = omega arith in
     answer
 

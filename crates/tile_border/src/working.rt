@@ -10,7 +10,7 @@ use crate::edges::{BottomEdge, CornerEdge, RightEdge};
 use crate::task::{Done, Task};
 use crate::wholes::ink_is_whole;
 use diffusion_kernel::Kernel;
-use dot_planes::{TileAmounts, TileBits, TileBytes, TileDots, TileRows};
+use dot_planes::{TILE_BYTES, TileAmounts, TileBits, TileBytes, TileDots, TileRows};
 use tile_lanes::{Field, diffuse_tile};
 use tile_shape::Place;
 
@@ -26,7 +26,7 @@ impl TileRoom {
     /// Room for any number of tiles, one after another.
     pub fn make() -> TileRoom {
         TileRoom {
-            bytes: [0; 8192],
+            bytes: [0; TILE_BYTES],
             amounts: TileAmounts::zero(),
             field: Field::make(),
         }

@@ -45,7 +45,7 @@ impl Shape {
     ghost use Rattle.tile_shape.specs.Geometry.{columns_of};
     ghost use Rattle.std.specs.Prelude.{IfNone, IfSome, IsTrue, ◌↔◌, ◌≡◌};
 
-    /// How many columns of tiles each band has: 1 to 129. Some tiles may have no pixel.
+    /// How many columns of tiles each band has, at least one. Some tiles may have no pixel.
     pub fn columns(&self) -> u32
         requires { IsShape self.now }
         ensures { result ≡ columns_of self.now }
@@ -53,7 +53,7 @@ impl Shape {
         (self.width + 62).div_ceil(64)
     }
 
-    /// How many bands there are: 1 to 495.
+    /// How many bands there are, at least one.
     pub fn bands(&self) -> u32
         requires { IsShape self.now }
         ensures { result ≡ bands_of self.now }

@@ -5,8 +5,9 @@ ghost use Rattle.tile_lanes.specs.Done.{window_of};
 ghost use Rattle.tile_shape.specs.Geometry.{IsTile};
 
 use crate::tiles::checks::same;
+use base_definitions::MOST_COLUMNS;
 use diffusion_kernel::Kernel;
-use dot_planes::{InkRows, TileAmounts, TileRows};
+use dot_planes::{InkRows, TILE_BYTES, TileAmounts, TileRows};
 use plain_diffusion::{Above, Amounts, Definition, amount_at};
 use std::alloc::Global;
 use std::test::Fail;
@@ -160,7 +161,7 @@ fn is_tile(rows: &InkRows, place: Place) -> bool
     ensures tile { result ≡ true → IsTile (window_of rows.now) place }
     ensures ink { result ≡ true → 0 < rows.now.inks }
 {
-    rows.width() < 8192
+    rows.width() <= MOST_COLUMNS
         && place.c < (rows.width() + 62).div_ceil(64)
         && place.j < rows.rows().div_ceil(32)
         && rows.inks() > 0
@@ -183,7 +184,7 @@ fn diffused(kernel: Kernel, place: Place, rows: &InkRows, handed: Edges) -> Give
     let mut edges = handed;
     let mut dots = [255u8; 256];
     let mut amounts = TileAmounts::zero();
-    rows.gather(place, &mut [0; 8192], &mut amounts);
+    rows.gather(place, &mut [0; TILE_BYTES], &mut amounts);
     diffuse_tile(
         kernel,
         rows.shape(),

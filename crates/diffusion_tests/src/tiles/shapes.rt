@@ -3,6 +3,7 @@ ghost use Rattle.std.specs.Prelude.{IsTrue};
 ghost use Rattle.tile_shape.specs.Geometry.{IsShape};
 
 use crate::tiles::checks::same;
+use base_definitions::{MOST_COLUMNS, MOST_ROWS};
 use tile_shape::{Dir, Place, Shape};
 
 // A window of five columns and three bands.
@@ -34,7 +35,10 @@ const LARGEST: Shape = Shape {
 fn is_window(shape: Shape) -> bool
     ensures { IsTrue result → IsShape shape }
 {
-    1 <= shape.width && shape.width <= 8191 && 1 <= shape.height && shape.height <= 15840
+    1 <= shape.width
+        && shape.width <= MOST_COLUMNS
+        && 1 <= shape.height
+        && shape.height <= MOST_ROWS
 }
 
 // A window, its columns and its bands.

@@ -1,12 +1,12 @@
 //! Bands of tiles, put into planes.
 ghost use Rattle.dot_planes.specs.Bands.{PutsBand, PutsBandInk, PutsBandRow};
 ghost use Rattle.dot_planes.specs.Tiles.{slab_of};
-ghost use Rattle.base_definitions.specs.Limits.{most_rows};
+ghost use Rattle.base_definitions.specs.Limits.{most_row_bytes, most_rows};
 ghost use Rattle.std.specs.Prelude.{length, ◌*◌, ◌+◌, ◌<◌, ◌≡◌, ◌≤◌};
 ghost use Rattle.tile_shape.specs.Geometry.{columns_of};
 
 use super::{Planes, row_len};
-use crate::band_rows::{put_side_by_side, put_wide};
+use crate::band_rows::{MOST_BAND_BYTES, put_side_by_side, put_wide};
 use crate::places::{reach, row_start_across};
 use crate::tiles::TileDots;
 
@@ -20,8 +20,7 @@ impl Planes {
         requires tiles { length tiles.now ≡ columns_of (slab_of self.old height) }
         ensures { PutsBand self.old self.new at height j tiles.now }
     {
-        // The widest band has 129 tiles, and a row reads one byte more.
-        let mut wide = [0; 1040];
+        let mut wide = [0; MOST_BAND_BYTES];
         let rows = (height - 32 * j).min(32);
         for ink in 0..self.inks {
             self.put_band_ink(at + 32 * j, rows, ink, tiles, &mut wide);
@@ -34,9 +33,9 @@ impl Planes {
         requires slab { first + rows ≤ self.old.rows }
         requires most { first + rows ≤ most_rows }
         requires ink { ink < self.old.inks }
-        requires tiles { length tiles.now ≤ 129 }
+        requires tiles { 8 * length tiles.now ≤ most_row_bytes + 16 }
         requires enough { self.old.width + 62 ≤ 64 * length tiles.now }
-        requires wide { length wide.old ≡ 1040 }
+        requires wide { length wide.old ≡ most_row_bytes + 16 }
         ensures { PutsBandInk self.old self.new first rows ink tiles.now }
     {
         for r in 0..rows {
@@ -50,7 +49,7 @@ impl Planes {
         requires ink { ink < self.old.inks }
         requires y { y < self.old.rows }
         requires r { r < 32 }
-        requires wide { length wide.now ≡ 1040 }
+        requires wide { length wide.now ≡ most_row_bytes + 16 }
         ensures { PutsBandRow self.old self.new ink y r wide.now }
     {
         let len = row_len(self.width);
