@@ -5,3 +5,4 @@ pub mod Ends
 pub mod Passing
 pub mod Triples
 pub mod Lanes
+pub mod Ten

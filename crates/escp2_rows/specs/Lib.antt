@@ -3,3 +3,4 @@ pub mod Reading
 pub mod Ends
 pub mod Literals
 pub mod Passing
+pub mod Examples

@@ -1,14 +1,19 @@
 //! The costs of a row: the fewest bytes that code it from each of its places on.
 ghost use Rattle.arrayvec.specs.ArrayVec.{array_vec_len};
+ghost use Rattle.base_definitions.specs.Limits.{most_row_bytes};
 ghost use Rattle.escp2_rows.specs.Ends.{IsEnd, IsFilled};
 ghost use Rattle.escp2_rows.specs.Passing.{cost};
 ghost use Rattle.escp2_definitions.specs.Least.{costs, equal_at};
 ghost use Rattle.std.specs.Prelude.{[], drop, length, ◌+◌, ◌-◌, ◌<◌, ◌≡◌, ◌≤◌};
 
 use arrayvec::ArrayVec;
+use base_definitions::MOST_ROW_BYTES;
 
-/// The costs of one row of at most 1,024 bytes.
-pub type CostTable = ArrayVec<u16, 1025>;
+/// The places of the widest row, with the one behind its end.
+pub(crate) const MOST_PLACES: usize = MOST_ROW_BYTES + 1;
+
+/// The costs of one row of at most `MOST_ROW_BYTES` bytes.
+pub type CostTable = ArrayVec<u16, MOST_PLACES>;
 
 /// The most bytes of a packet.
 pub const MOST_BYTES: usize = 128;
@@ -61,7 +66,7 @@ fn end_near(filled: Filled) -> usize
 
 // What the place before a place costs, by how many bytes are equal there.
 fn front_of(row: &[u8], table: &[u16], filled: Filled, equal: usize) -> Front
-    requires most { length row.now ≤ 1024 }
+    requires most { length row.now ≤ most_row_bytes }
     requires filled { IsFilled row.now table.now filled }
     requires some { 0 < filled.at }
     requires equal { equal ≡ equal_at (drop (filled.at - 1) row.now) }
@@ -86,7 +91,7 @@ fn front_of(row: &[u8], table: &[u16], filled: Filled, equal: usize) -> Front
 // Fills the place before a place.
 #[inline]
 fn fill_byte(row: &[u8], table: &mut [u16], filled: Filled) -> Filled
-    requires most { length row.now ≤ 1024 }
+    requires most { length row.now ≤ most_row_bytes }
     requires filled { IsFilled row.now table.old filled }
     requires some { 0 < filled.at }
     ensures filled { IsFilled row.now table.new result }
@@ -105,7 +110,7 @@ fn fill_byte(row: &[u8], table: &mut [u16], filled: Filled) -> Filled
 
 /// Writes the costs of a row over what the table has.
 pub fn fill_costs(row: &[u8], table: &mut [u16])
-    requires most { length row.now ≤ 1024 }
+    requires most { length row.now ≤ most_row_bytes }
     requires sized { length table.old ≡ length row.now + 1 }
     ensures { table.new ≡ costs row.now }
 {
@@ -120,14 +125,14 @@ pub fn fill_costs(row: &[u8], table: &mut [u16])
     }
 }
 
-/// The fewest bytes that code a row of at most 1,024 bytes from each of its places on, which `out` has none of before
-/// (ESC/P Reference Manual, run length encoding of `ESC .`). It takes no memory.
+/// The fewest bytes that code a row of at most `MOST_ROW_BYTES` bytes from each of its places on (ESC/P Reference
+/// Manual, run length encoding of `ESC .`). `out` is empty before. It takes no memory.
 pub fn cost_table(row: &[u8], out: &mut CostTable)
-    requires most { length row.now ≤ 1024 }
+    requires most { length row.now ≤ most_row_bytes }
     requires empty { out.old.items ≡ [] }
     ensures { out.new.items ≡ costs row.now }
 {
-    let zeros = [0; 1025];
+    let zeros = [0; MOST_PLACES];
     out.try_extend_from_slice(&zeros[..=row.len()]).unwrap();
     fill_costs(row, out.as_mut_slice());
 }

@@ -8,16 +8,18 @@
 //! was used, whatever follows; and `Fault` where that byte is a control byte of 128, or one whose count passes the end
 //! of its row, whatever follows. After the last two the reader is done and may not be fed.
 //!
-//! `cost_table` gives the costs of a row of at most 1,024 bytes, and `code_row` writes exactly the least code of such a
-//! row, into a slice of at least twice the row's length. No call takes memory.
+//! `cost_table` gives the costs of a row of at most `MOST_ROW_BYTES` bytes. `code_row` writes exactly the least code of
+//! such a row, into a slice of at least twice the row's length. No call takes memory.
 #![tactic(auto)]
 
 mod buffer;
 mod costs;
+mod examples;
 mod literals;
 mod reader;
 mod writer;
 
 pub use costs::{CostTable, cost_table};
+pub use examples::{bytes_of_ten, costs_of_ten, literal_of_ten};
 pub use reader::{RowFed, RowReader, RowState};
 pub use writer::code_row;

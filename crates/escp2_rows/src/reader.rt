@@ -1,4 +1,5 @@
 //! A reader of a raster's rows, piece by piece.
+ghost use Rattle.base_definitions.specs.Limits.{most_row_bytes};
 ghost use Rattle.escp2_rows.specs.Places.{behind_control, is_failed, least_pending, pending};
 ghost use Rattle.escp2_definitions.specs.RowCode.{control_of};
 ghost use Rattle.std.specs.Prelude.{[], false, length, min, replicate, take, vec_capacity, vec_len, ℕ, ◌*◌, ◌++◌, ◌+◌};
@@ -48,9 +49,9 @@ pub struct RowReader {
     row_left: usize,
     place: Place,
     ghost some: { 1 ≤ row_bytes },
-    ghost narrow: { row_bytes ≤ 1024 },
+    ghost narrow: { row_bytes ≤ most_row_bytes },
     ghost few: { rows_left ≤ 255 },
-    ghost short: { row_left ≤ 261120 },
+    ghost short: { row_left ≤ 255 * most_row_bytes },
     ghost fits: { pending place ≤ row_left },
     ghost begun: { least_pending place ≤ pending place },
     ghost ended: { row_left ≡ 0 → rows_left ≡ 0 },
@@ -65,7 +66,7 @@ impl RowReader {
     pub fn begin(c: u8, row_bytes: u16, rows: u8) -> RowReader
         requires form { c ≤ 1 }
         requires narrowest { 1 ≤ row_bytes }
-        requires widest { row_bytes ≤ 1024 }
+        requires widest { row_bytes ≤ most_row_bytes }
         requires some { 1 ≤ rows }
         ensures bytes_left { bytes_left_of result ≡ rows * row_bytes }
         ensures is_open { is_done_of result ≡ false }

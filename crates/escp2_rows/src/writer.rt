@@ -1,9 +1,10 @@
 //! Writing the least code of a row.
+ghost use Rattle.base_definitions.specs.Limits.{most_row_bytes};
 ghost use Rattle.escp2_definitions.specs.Least.{costs, equal_at, least_row};
 ghost use Rattle.escp2_rows.specs.Literals.{IsLongest, WritesFirst};
 ghost use Rattle.std.specs.Prelude.{IfSome, length, take, ◌*◌, ◌<◌, ◌≡◌, ◌≤◌};
 
-use crate::costs::{MOST_BYTES, fill_costs};
+use crate::costs::{MOST_BYTES, MOST_PLACES, fill_costs};
 use crate::literals::{equal_bytes, literal_end};
 
 // The fewest bytes that are sent as a run.
@@ -20,7 +21,7 @@ struct Written {
 #[inline]
 fn literal_bytes(row: &[u8], table: &[u16]) -> usize
     requires some { 0 < length row.now }
-    requires most { length row.now ≤ 1024 }
+    requires most { length row.now ≤ most_row_bytes }
     requires table { table.now ≡ costs row.now }
     requires alone { equal_at row.now ≡ 1 }
     ensures { IsLongest row.now result }
@@ -68,7 +69,7 @@ fn write_literal(row: &[u8], count: usize, out: &mut [u8]) -> Written
 // Writes the code of the first packet of a row to the beginning of `out`, by the row's costs.
 fn write_packet(row: &[u8], table: &[u16], out: &mut [u8]) -> Written
     requires some { 0 < length row.now }
-    requires most { length row.now ≤ 1024 }
+    requires most { length row.now ≤ most_row_bytes }
     requires table { table.now ≡ costs row.now }
     requires room { 2 * length row.now ≤ length out.old }
     ensures { WritesFirst row.now result.row result.code out.new }
@@ -82,7 +83,7 @@ fn write_packet(row: &[u8], table: &[u16], out: &mut [u8]) -> Written
 
 // Writes the code of a row by its costs, and gives its length.
 fn write_packets(row: &[u8], table: &[u16], out: &mut [u8]) -> usize
-    requires most { length row.now ≤ 1024 }
+    requires most { length row.now ≤ most_row_bytes }
     requires table { table.now ≡ costs row.now }
     requires room { 2 * length row.now ≤ length out.old }
     ensures code { take result out.new ≡ least_row row.now }
@@ -100,12 +101,12 @@ fn write_packets(row: &[u8], table: &[u16], out: &mut [u8]) -> usize
 
 // Writes the code of a row by the costs of its places, and gives its length.
 fn write_by_costs(row: &[u8], out: &mut [u8]) -> usize
-    requires most { length row.now ≤ 1024 }
+    requires most { length row.now ≤ most_row_bytes }
     requires room { 2 * length row.now ≤ length out.old }
     ensures code { take result out.new ≡ least_row row.now }
     ensures short { result ≤ 2 * length row.now }
 {
-    let mut room = [0; 1025];
+    let mut room = [0; MOST_PLACES];
     let table = &mut room[..=row.len()];
     fill_costs(row, table);
     write_packets(row, table, out)
@@ -125,10 +126,10 @@ fn write_front(row: &[u8], out: &mut [u8]) -> Option<Written>
     Some(write_literal(row, count, out))
 }
 
-/// Writes the least code of a row of at most 1,024 bytes to the beginning of `out`, and gives its length: at most twice
-/// that of the row. It takes no memory.
+/// Writes the least code of a row of at most `MOST_ROW_BYTES` bytes to the beginning of `out`, and gives its length: at
+/// most twice that of the row. It takes no memory.
 pub fn code_row(row: &[u8], out: &mut [u8]) -> usize
-    requires most { length row.now ≤ 1024 }
+    requires most { length row.now ≤ most_row_bytes }
     requires room { 2 * length row.now ≤ length out.old }
     ensures code { take result out.new ≡ least_row row.now }
     ensures short { result ≤ 2 * length row.now }

@@ -1,4 +1,5 @@
 use Rattle.std.proofs.Common.{◌≡◌, ℕ, ◌+◌, ◌-◌, ◌<◌, ◌≤◌, List, drop, get_or, length, arith, length-drop}
+use Rattle.base_definitions.specs.Limits.{most_row_bytes}
 use Rattle.escp2_definitions.specs.Least.{equal_at}
 use Rattle.escp2_rows.specs.declared.costs.Filled.{Filled}
 use Rattle.escp2_rows.specs.Ends.{IsEnd, IsFilled}
@@ -17,7 +18,7 @@ Near filled end = (filled.end < filled.at + 128 → end ≡ filled.end) × (fill
 less : (row table : List ℕ) (filled : Filled) (end : ℕ) → IsFilled row table filled → Near filled end → IsEnd 127 row filled.at end
 less row table filled end is near = end_less row filled.at filled.end end is.ends near.0 near.1
 
-cost_fits : (row table : List ℕ) (filled : Filled) (end : ℕ) → IsFilled row table filled → length row ≤ 1024 → Near filled end
+cost_fits : (row table : List ℕ) (filled : Filled) (end : ℕ) → IsFilled row table filled → length row ≤ most_row_bytes → Near filled end
     → get_or table end 0 + (end - (filled.at - 1)) + 1 ≤ 4000
 cost_fits row table filled end is most near =
     let ends : IsEnd 127 row filled.at end = less row table filled end is near in
