@@ -48,7 +48,7 @@ live-first whole rest n many e = ap (λ b. if b then first_live whole (count_fro
 dead-first : (whole : List ℕ) (n many : ℕ) → has whole n ≡ true → first_live whole (count_from n (suc many)) ≡ first_live whole (count_from (n + 1) many)
 dead-first whole n many e = ap (λ b. if b then first_live whole (count_from (n + 1) many) else Some n) e
 
-at-most : (whole rest : List ℕ) (n many : ℕ) → NoneLive whole rest n many ⊎ SomeLive whole rest n many → length rest ≤ many
+pub at-most : (whole rest : List ℕ) (n many : ℕ) → NoneLive whole rest n many ⊎ SomeLive whole rest n many → length rest ≤ many
 at-most whole rest n many (inl all) = omega (arith, all.all)
 at-most whole rest n many (inr some) = omega (arith, some.fewer)
 

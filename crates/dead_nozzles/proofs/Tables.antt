@@ -11,7 +11,7 @@ use Rattle.dead_nozzles.specs.Dead.{IsRising, checked, first_live, first_outside
 use Rattle.dead_nozzles.specs.Plans.{listed}
 use Rattle.dead_nozzles.specs.Strokes.{Head, IsHead}
 use Rattle.dead_nozzles.proofs.Lists.{all-map, has-filter, has-inside}
-use Rattle.dead_nozzles.proofs.DeadLists.{all-inside, has-none}
+use Rattle.dead_nozzles.proofs.DeadLists.{all-inside, all-or-not, at-most, has-none}
 
 -- ---- the table
 
@@ -68,6 +68,10 @@ rising-is test n (suc many) (k ∷ rest) rising low high same =
 -- a list without a fault has nozzles
 inside : (nozzles : ℕ) (dead : List ℕ) → checked nozzles dead ≡ Ok tt → first_outside nozzles dead ≡ None
 inside nozzles dead e = grind arith
+
+-- no more nozzles are dead than there are
+pub dead-few : (nozzles : ℕ) (dead : List ℕ) → IsRising dead → checked nozzles dead ≡ Ok tt → length dead ≤ nozzles
+dead-few nozzles dead rising e = at-most dead dead 0 nozzles (all-or-not nozzles dead rising (inside nozzles dead e))
 
 pub listed-is : (table : List Bool) (nozzles : ℕ) (dead : List ℕ) → IsRising dead → checked nozzles dead ≡ Ok tt
     → ((k : ℕ) → k < nozzles → get_or table k false ≡ has dead k) → listed table nozzles ≡ dead

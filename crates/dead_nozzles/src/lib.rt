@@ -12,9 +12,11 @@
 mod checking;
 mod finding;
 pub mod laws;
+mod nozzles;
 mod owners;
 mod plan;
 mod worn;
 
 pub use checking::{DeadFault, check_dead};
+pub use nozzles::DeadNozzles;
 pub use plan::StrokePlan;

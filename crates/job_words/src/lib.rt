@@ -20,7 +20,7 @@ mod table;
 mod usage;
 mod values;
 
-pub use dead_lists::DeadNozzles;
+pub use dead_nozzles::DeadNozzles;
 pub use diffusion_kernel::Kernel;
 pub use pwg_definitions::Kind;
 pub use reading::{DEFAULT_PROFILE, Job, profile_name, read_words};

@@ -7,7 +7,7 @@ ghost use Rattle.job_words.specs.Table.{dead_key};
 ghost use Rattle.std.specs.Prelude.{IfErr, OnOk, [], drop, length, slice_get, take, unwrap_or};
 ghost use Rattle.std.specs.Prelude.{◌-◌, ◌≡◌, ◌≤◌};
 
-use crate::dead_lists::{DeadNozzles, dead_value};
+use crate::dead_lists::dead_value;
 use crate::earlier::{is_excluded_before, is_given_before, profile_word, value_given};
 use crate::keys::JobKey;
 use crate::table::Verb;
@@ -16,6 +16,7 @@ use crate::values::{
     GREATEST_MOST, cap_value, height_value, kernel_named, kind_named, most_value, page_count,
     seed_value, shingle_value, width_value, worker_count,
 };
+use dead_nozzles::DeadNozzles;
 use diffusion_kernel::Kernel;
 use key_values::{cut_word, value_of};
 use pwg_definitions::Kind;

@@ -1,18 +1,12 @@
 -- What it means that bytes print pages.
-use Rattle.std.specs.Prelude.{◌≡◌, ℕ, ◌≤◌, List, [], ◌∷◌, None}
-use Rattle.std.specs.List.{AllByRecursion}
-use Rattle.printer_definitions.specs.declared.inks.Ink.{Ink}
+use Rattle.std.specs.Prelude.{◌≡◌, ℕ, List, [], ◌∷◌, None}
 use Rattle.printer_definitions.specs.Printer.{Printer}
 use Rattle.diffusion_definitions.specs.Diffusion.{Table}
 use Rattle.escp2_definitions.specs.Commands.{Entry, commands}
 use Rattle.escp2_definitions.specs.Commands.ListEnd.{Whole}
 use Rattle.escp2_definitions.specs.Machine.{Dot, Machine, Printed, Sheet, after, execute, execute_from}
-use Rattle.escp2_definitions.specs.Rasters.{ink_rasters}
 use Rattle.page_definitions.specs.Dots.{wanted}
 use Rattle.page_definitions.specs.Exact.{Exactly}
-use Rattle.page_definitions.specs.PageBytes.{page_bytes}
-use Rattle.separation_definitions.specs.Windows.{window_of}
-use Rattle.weave_definitions.specs.Weave.{pass_count}
 use Rattle.pwg_definitions.specs.Stream.{Page}
 
 -- There are as many sheets as pages, and each has exactly the dots that its page asks for.
@@ -45,12 +39,3 @@ pub record GivesSheet (p : Printer) (bytes : List ℕ) (dots : List Dot) : Type 
   pub whole : (commands bytes).end ≡ Whole
   pub gives : (m : Machine) → m.dots ≡ [] → IsOneSheet (execute_from p m (commands bytes).entries) dots
   pub leaves : (m : Machine) → m.dots ≡ [] → (state_after p m (commands bytes).entries).dots ≡ []
-
--- The job of a page has no more rasters of an ink than the head takes passes over the page's window.
-pub record HasPasses (p : Printer) (k : Table) (page : Page) : Type 0 where
-  pub rasters : (ink : Ink) → ink_rasters ink (commands (page_bytes page p k)).entries
-      ≤ pass_count p.nozzles p.pitch (window_of page.form p).height
-
--- the same for each page
-abbrev pub HavePasses : Printer → Table → List Page → Type 0
-HavePasses p k pages = AllByRecursion (HasPasses p k) pages

@@ -3,6 +3,7 @@ use Rattle.std.proofs.Common.{◌≡◌, ℕ, ◌+◌, ◌-◌, ◌*◌, ◌/◌
 use Rattle.std.proofs.Common.{List, [], ◌∷◌, ◌++◌, Option, None, refl, ◌∙◌, ap, arith, append_assoc, flat_map}
 use Rattle.std.specs.List.{list_any}
 use Rattle.std.proofs.lemmas.Bool.{eq-eqb, le-ltb}
+use Rattle.base_definitions.specs.Limits.{most_columns}
 use Rattle.printer_definitions.specs.declared.inks.Ink.{Ink}
 use Rattle.printer_definitions.specs.Printer.{column_step, nozzle_step, row_step, row_units}
 use Rattle.escp2_definitions.specs.declared.command.RasterHead.{RasterHead}
@@ -85,7 +86,7 @@ raster-accepted w stroke ink columns dots is lies once =
     neither _ _ (ap not (eq-eqb across across refl)) (ap not (eq-eqb (nozzle_step w.printer) (nozzle_step w.printer) refl)) in
     let nozzles : not (w.printer.nozzles == w.printer.nozzles) ≡ false = ap not (eq-eqb w.printer.nozzles w.printer.nozzles refl) in
     let grid : is_off_grid w.printer s ≡ false = neither _ _ (ap not (eq-eqb _ _ zeros.rest)) (ap not (eq-eqb _ _ at_row)) in
-    let columns_fit : nat_lt 8191 (0 / across + w.halftone.width) ≡ false = le-ltb _ _ (omega (arith, zeros.over, is.size.most_width)) in
+    let columns_fit : nat_lt most_columns (0 / across + w.halftone.width) ≡ false = le-ltb _ _ (omega (arith, zeros.over, is.size.most_width)) in
     let rows_fit : list_any (λ d. nat_le bottom d.y) fired ≡ false =
     ap (list_any (λ d. nat_le bottom d.y)) same
     ∙ on_sheet w.printer w.above w.halftone.height ink stroke.start bottom (stroke.rows ink) is.can (lies.on_window ink) bottom_is in

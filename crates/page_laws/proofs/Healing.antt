@@ -1,11 +1,11 @@
 -- The strokes of a head with dead nozzles print the halftone of their window.
 use Rattle.std.proofs.Common.{◌≡◌, ℕ, zero, suc, ◌+◌, ◌-◌, ◌*◌, ◌<◌, ◌≤◌, Bool, true, cond, ◌&&◌, ◌==◌}
-use Rattle.std.proofs.Common.{List, [], ◌∷◌, map, None, Ok, refl, sym, ◌∙◌, ap, arith, subst}
+use Rattle.std.proofs.Common.{List, [], ◌∷◌, length, map, None, Ok, refl, sym, ◌∙◌, ap, arith, subst}
 use Rattle.std.specs.List.{AllByRecursion, count_by, flat_map, list_any}
 use Rattle.std.specs.Prelude.{slice_index_or}
 use Rattle.std.proofs.lemmas.Bool.{and_right, eqb-true, lt-ltb}
 use Rattle.std.proofs.lemmas.List.{length-map}
-use Rattle.std.proofs.lemmas.List.Sums.{count_by-le-length, sum_by-cons}
+use Rattle.std.proofs.lemmas.List.Sums.{sum_by-cons}
 use Rattle.printer_definitions.specs.declared.inks.Ink.{Ink}
 use Rattle.printer_definitions.specs.Inks.{inks_of}
 use Rattle.printer_definitions.specs.Printer.{Printer, head_rows, row_units}
@@ -35,7 +35,7 @@ use Rattle.page_laws.proofs.Hits.{FiresEachDot, fires-exactly, hits, rows_hits}
 use Rattle.page_laws.proofs.Fired.{AllWide}
 use Rattle.page_laws.proofs.Passes.{at-counted, count_from-len, fired_row-len, no-dot}
 use Rattle.page_laws.proofs.RasterRows.{rasters-have-rows}
-use Rattle.page_laws.proofs.Rasters.{fires_with, strokes-have}
+use Rattle.page_laws.proofs.Rasters.{few-rasters}
 use Rattle.page_laws.proofs.Shingling.{counted-any, counted-row, fired-some}
 
 -- ---- how often a stroke fires a place
@@ -204,16 +204,16 @@ healed-spared dead p h tall can good size =
         ap (λ row. at row x) (nozzle-row p h s ink i few ∙ ap (fired_row h ink) (dead-row (worn_head dead p h.height) s i few shape e))
         ∙ no-dot h.width x
 
--- They have no more rasters of an ink than passes and missing rows.
+-- There are no more strokes than passes and missing rows.
+pub healed-few : (dead : List ℕ) (p : Printer) (h : Halftone) → CanPrint p → checked p.nozzles dead ≡ Ok tt
+    → length (healed dead p h).list ≤ healed_passes dead p h.height
+healed-few dead p h can good =
+    let head : Head = worn_head dead p h.height in
+    omega (arith, length-map (all_strokes head) (healed_stroke p h), all-few head (worn-is dead p h.height can good))
+
+-- So their job has no more rasters of an ink.
 pub healed-rasters : (dead : List ℕ) (p : Printer) (h : Halftone) (tall : ℕ) → CanPrint p → checked p.nozzles dead ≡ Ok tt → Sized p h tall → (ink : Ink)
     → ink_rasters ink (commands (healed_bytes dead p h (tall * row_units p))).entries ≤ healed_passes dead p h.height
 unfolding healed_bytes
 healed-rasters dead p h tall can good size ink =
-    let head : Head = worn_head dead p h.height in
-    omega (
-      arith,
-      strokes-have p h page_coding (healed dead p h) tall can page-coded size (healed-fires dead p h can good) ink,
-      count_by-le-length (fires_with ink) (healed dead p h).list,
-      length-map (all_strokes head) (healed_stroke p h),
-      all-few head (worn-is dead p h.height can good),
-    )
+    omega (arith, few-rasters p h (healed dead p h) tall can size (healed-fires dead p h can good) ink, healed-few dead p h can good)

@@ -2,6 +2,7 @@
 use Rattle.std.proofs.Common.{◌≡◌, ℕ, ◌+◌, ◌-◌, ◌*◌, ◌/◌, ◌%◌, ◌<◌, ◌≤◌, ◌⊎◌, inl, inr, sym, ◌∙◌, ap, arith, subst}
 use Rattle.std.proofs.Math.Nat.{div-mul-le_self, mul-le-mul, mul-le-mul_right}
 use Rattle.std.proofs.lemmas.Nat.{mod-mul-add}
+use Rattle.base_definitions.specs.Limits.{most_rows}
 use Rattle.printer_definitions.specs.Printer.{Printer, column_step, nozzle_step, row_step, row_units}
 use Rattle.page_definitions.specs.Dots.{Halftone}
 use Rattle.page_laws.specs.Sized.{Sized}
@@ -27,7 +28,7 @@ units dpi (inl e) = ap (λ d. 720 / d * 5) e ∙ sym (ap (λ d. 3600 / d) e)
 units dpi (inr e) = ap (λ d. 720 / d * 5) e ∙ sym (ap (λ d. 3600 / d) e)
 
 -- a page of the greatest height is 22 inches long
-longest : (dpi n : ℕ) → (dpi ≡ 360) ⊎ (dpi ≡ 720) → n ≤ 15840 * dpi / 720 → n * (720 / dpi) ≤ 15840
+longest : (dpi n : ℕ) → (dpi ≡ 360) ⊎ (dpi ≡ 720) → n ≤ most_rows * dpi / 720 → n * (720 / dpi) ≤ most_rows
 longest dpi n (inl e) h = grind arith
 longest dpi n (inr e) h = grind arith
 
@@ -61,7 +62,7 @@ pub nozzle_step-some : (p : Printer) → CanPrint p → 1 ≤ nozzle_step p
 nozzle_step-some p c = grind (arith, mul-le-mul_right, nozzle_step-is, row_step-some)
 
 -- a page of the greatest height is 22 inches long
-pub sheet-longest : (p : Printer) (n : ℕ) → CanPrint p → n ≤ 15840 * p.vdpi / 720 → n * row_units p ≤ 15840
+pub sheet-longest : (p : Printer) (n : ℕ) → CanPrint p → n ≤ most_rows * p.vdpi / 720 → n * row_units p ≤ most_rows
 sheet-longest p n c h = longest p.vdpi n c.down h
 
 -- whole steps are on the grid
@@ -82,12 +83,12 @@ length-fits p h tall can size = grind (arith, mul-le-mul, row_units-some)
 
 -- the margins of a window are in their order, and on the sheet
 pub margins-fit : (p : Printer) (h : Halftone) (above tall : ℕ) → CanPrint p → Sized p h tall
-    → ((p.top - above) * row_units p < (p.top + h.height) * row_units p) × ((p.top + h.height) * row_units p ≤ 15840)
+    → ((p.top - above) * row_units p < (p.top + h.height) * row_units p) × ((p.top + h.height) * row_units p ≤ most_rows)
 margins-fit p h above tall can size = grind (arith, mul-le-mul_right, rises, row_units-some)
 
 -- a step down from one row to another above the window's end is no longer than the sheet
 pub step-fits : (p : Printer) (h : Halftone) (above tall last row : ℕ) → Sized p h tall → above ≤ p.top → row < above + h.height
-    → (row - last) * row_units p ≤ 15840
+    → (row - last) * row_units p ≤ most_rows
 step-fits p h above tall last row size room low = grind (arith, mul-le-mul_right)
 
 -- the window of a page that the printer takes has a size that can be printed

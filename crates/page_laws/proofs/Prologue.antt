@@ -3,6 +3,7 @@ use Rattle.std.proofs.Common.{◌≡◌, ℕ, zero, suc, ◌+◌, ◌-◌, ◌*�
 use Rattle.std.proofs.Common.{◌++◌, length, Option, Some, refl, sym, ◌∙◌, ap, arith}
 use Rattle.std.proofs.lemmas.Bool.{le-ltb}
 use Rattle.std.proofs.Math.Nat.{mul-le-mul_right}
+use Rattle.base_definitions.specs.Limits.{longest_page}
 use Rattle.printer_definitions.specs.declared.inks.Ink.TheVariants.{Black}
 use Rattle.printer_definitions.specs.Printer.{row_step, row_units}
 use Rattle.escp2_definitions.specs.declared.command.Command.TheVariants as c
@@ -30,7 +31,7 @@ prologue-run w m job is blank =
     let fits_sheet = margins-fit w.printer w.halftone w.above w.tall is.can is.size in
     let on_sheet : last ≤ len = mul-le-mul_right (row_units w.printer) is.size.low in
     let no_dots : nat_lt 0 (length m.dots) ≡ false = ap (λ ds. nat_lt 0 (length ds)) blank in
-    let length_fits : nat_lt 79200 (len * 5) ≡ false = le-ltb _ _ (omega (arith, is.size.short)) in
+    let length_fits : nat_lt longest_page (len * 5) ≡ false = le-ltb _ _ (omega (arith, is.size.short)) in
     let margins_fit : nat_lt (len * 5) (last * 5) ≡ false = le-ltb _ _ (omega (arith, on_sheet)) in
     let top_fits : nat_lt (len * 5) (first * 5 + 0 * 5) ≡ false = le-ltb _ _ (omega (arith, on_sheet, fits_sheet.0)) in
     let j8 : List Spoken = job in

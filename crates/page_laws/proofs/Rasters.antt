@@ -1,9 +1,8 @@
 -- How many rasters of an ink the strokes of a page take.
 use Rattle.std.proofs.lemmas.Grind.{common_steps}
 use Rattle.std.proofs.Common.{◌≡◌, ℕ, zero, suc, ◌+◌, ◌-◌, ◌*◌, ◌≤◌, Bool, true, false, cond, if◌then◌else◌, List, [], ◌∷◌, ◌++◌}
-use Rattle.std.proofs.Common.{length, refl, ◌∙◌, ap, arith, append_assoc, filter, flat_map}
+use Rattle.std.proofs.Common.{length, refl, ap, arith, append_assoc, filter, flat_map}
 use Rattle.std.specs.List.{count_by, sum_by}
-use Rattle.std.proofs.lemmas.List.{length-map}
 use Rattle.std.proofs.lemmas.List.Sums.{count_by-le-length, sum_by-cons}
 use Rattle.printer_definitions.specs.declared.inks.Ink.{Ink}
 use Rattle.printer_definitions.specs.declared.inks.Ink.TheVariants.{Black, Cyan, Magenta, Yellow}
@@ -11,29 +10,21 @@ use Rattle.printer_definitions.specs.declared.inks.InkSet.{InkSet}
 use Rattle.printer_definitions.specs.declared.inks.InkSet.TheVariants.{K, Cmy, Cmyk}
 use Rattle.printer_definitions.specs.Inks.{inks_of, same_ink}
 use Rattle.printer_definitions.specs.Printer.{Printer, row_units}
-use Rattle.diffusion_definitions.specs.Diffusion.{Table}
 use Rattle.escp2_definitions.specs.declared.command.Command.TheVariants as c
 use Rattle.escp2_definitions.specs.Commands.{CommandList, Entry, commands}
 use Rattle.escp2_definitions.specs.Rasters.{colour_after, ink_rasters, ink_rasters_from, raster_count}
 use Rattle.escp2_definitions.specs.Written.{Coding, IsCoding, written}
-use Rattle.separation_definitions.specs.CanPrint.{ArePages, CanPrint}
-use Rattle.separation_definitions.specs.Windows.{wanted_by}
-use Rattle.pwg_definitions.specs.Stream.{IsPage, Page}
-use Rattle.page_definitions.specs.Dots.{Halftone, halftone}
-use Rattle.page_definitions.specs.PageBytes.{halftone_bytes, page_bytes, page_coding, pass_stroke, weave}
-use Rattle.page_definitions.specs.Printing.{HasPasses, HavePasses}
+use Rattle.separation_definitions.specs.CanPrint.{CanPrint}
+use Rattle.page_definitions.specs.Dots.{Halftone}
+use Rattle.page_definitions.specs.PageBytes.{page_coding}
 use Rattle.page_definitions.specs.Strokes.{Fires, Spoken, Stroke, Strokes, down_by, fires, has_dot, page_commands, say, strokes_bytes}
-use Rattle.base_definitions.specs.Counting.{count_from}
-use Rattle.weave_definitions.specs.Weave.{pass_count}
 use Rattle.page_laws.specs.Sized.{Sized}
 use Rattle.page_laws.proofs.Counts.{count-cons}
 use Rattle.page_laws.proofs.Running.{Layout, entries}
 use Rattle.page_laws.proofs.Firing.{fires_ink, header_of}
 use Rattle.page_laws.proofs.Pages.{fires_strokes, page_says}
 use Rattle.page_laws.proofs.Printed.{commands-spoken, layout_of, read}
-use Rattle.page_laws.proofs.Headline.{page-coded, page-sized}
-use Rattle.page_laws.proofs.Passes.{count_from-len}
-use Rattle.page_laws.proofs.Weaving.{weave-fires}
+use Rattle.page_laws.proofs.Headline.{page-coded}
 
 -- ---- the rasters of commands
 
@@ -169,24 +160,9 @@ pub all-rasters : (p : Printer) (h : Halftone) (coding : Coding) (strokes : Stro
     ≡ sum_by (λ (s : Spoken). raster_count s.command) (page_commands p h.width h.height coding.c (tall * row_units p) strokes)
 all-rasters p h coding strokes tall can is_coding size fire = simp (commands-spoken, entries-all, read)
 
--- A page takes no more rasters of an ink than passes.
-pub page-has : (p : Printer) (k : Table) (page : Page) → CanPrint p → IsPage (wanted_by p) page → HasPasses p k page
-unfolding page_bytes halftone_bytes
-page-has p k page can is = record {
-  rasters = λ ink.
-      let h : Halftone = halftone page p k in
-      let passes : ℕ = pass_count p.nozzles p.pitch h.height in
-      let many : length (weave p h).list ≡ passes = length-map (count_from 0 passes) (pass_stroke p h) ∙ count_from-len 0 passes in
-      omega (
-        arith,
-        strokes-have p h page_coding
-            (weave p h) page.form.height can page-coded (page-sized p k page can is) (weave-fires p h can) ink,
-        count_by-le-length (fires_with ink) (weave p h).list,
-        many,
-      );
-}
-
--- the same for each page
-pub pages-have : (p : Printer) (k : Table) (pages : List Page) → CanPrint p → ArePages p pages → HavePasses p k pages
-pages-have p k [] can are = tt
-pages-have p k (page ∷ pages) can are = (page-has p k page can are.0, pages-have p k pages can are.1)
+-- The job of strokes has no more rasters of an ink than strokes.
+pub few-rasters : (p : Printer) (h : Halftone) (strokes : Strokes) (tall : ℕ) → CanPrint p → Sized p h tall → Fires p h strokes
+    → (ink : Ink) → ink_rasters ink (commands (strokes_bytes page_coding p h.width h.height (tall * row_units p) strokes)).entries
+    ≤ length strokes.list
+few-rasters p h strokes tall can size fire ink =
+    omega (arith, strokes-have p h page_coding strokes tall can page-coded size fire ink, count_by-le-length (fires_with ink) strokes.list)

@@ -1,13 +1,13 @@
 -- Shingled passes over a window print its halftone.
 use Rattle.std.proofs.lemmas.Grind.{common_steps}
 use Rattle.std.proofs.Common.{◌≡◌, ℕ, zero, suc, ◌+◌, ◌-◌, ◌*◌, ◌<◌, ◌≤◌, Bool, true, false, cond, not, ◌&&◌, ◌==◌, nat_lt, nat_le}
-use Rattle.std.proofs.Common.{if◌then◌else◌, List, [], ◌∷◌, length, map, Option, None, Some, refl, sym, ◌∙◌, ap, arith, subst}
+use Rattle.std.proofs.Common.{if◌then◌else◌, List, [], ◌∷◌, map, Option, None, Some, refl, sym, ◌∙◌, ap, arith, subst}
 use Rattle.std.specs.List.{AllByRecursion, count_by, flat_map, list_any}
 use Rattle.std.specs.Prelude.{slice_index_or}
 use Rattle.std.proofs.lemmas.Bool.{and_right, eqb-true, lt-ltb}
 use Rattle.std.proofs.lemmas.Bool.Decides.{nat_tests}
 use Rattle.std.proofs.lemmas.List.{length-map}
-use Rattle.std.proofs.lemmas.List.Sums.{count_by-le-length, sum_by-cons}
+use Rattle.std.proofs.lemmas.List.Sums.{sum_by-cons}
 use Rattle.std.proofs.Math.Nat.{mul-le-mul_right}
 use Rattle.std.proofs.lemmas.Nat.{div-add-mod'}
 use Rattle.printer_definitions.specs.declared.inks.Ink.{Ink}
@@ -16,7 +16,6 @@ use Rattle.printer_definitions.specs.Printer.{Printer, row_units}
 use Rattle.base_definitions.specs.Counting.{count_from}
 use Rattle.base_definitions.specs.Packed.{at}
 use Rattle.escp2_definitions.specs.Commands.{commands}
-use Rattle.escp2_definitions.specs.Rasters.{ink_rasters}
 use Rattle.separation_definitions.specs.CanPrint.{CanPrint}
 use Rattle.page_definitions.specs.Dots.{Halftone}
 use Rattle.page_definitions.specs.PageBytes.{fired_row, page_coding}
@@ -35,7 +34,6 @@ use Rattle.page_laws.proofs.Headline.{page-coded}
 use Rattle.page_laws.proofs.Hits.{FiresEachDot, fires-exactly, hits, rows_hits}
 use Rattle.page_laws.proofs.Passes.{at-counted, blank, count_from-len, fired_row-len, no-dot}
 use Rattle.page_laws.proofs.RasterRows.{rasters-have-rows}
-use Rattle.page_laws.proofs.Rasters.{fires_with, strokes-have}
 
 -- ---- how often the passes fire a place
 
@@ -215,17 +213,3 @@ shingled-halves p h tall can fits size =
         counted-row (shingled_row p h t ink) 0 p.nozzles i low ∙ ap (shingled_row p h t ink) place in
         let P : List Bool → Type 0 = λ row. FiresHalf i (λ x. at row x) in
         subst P (sym same) (other-half i (fires_even p.nozzles i) (fired_row h ink (shingle_row p.nozzles p.pitch h.height t i)))
-
--- They have no more rasters of an ink than passes.
-pub shingled-passes : (p : Printer) (h : Halftone) (tall : ℕ) → CanPrint p → Shingles p.nozzles p.pitch → Sized p h tall → (ink : Ink)
-    → ink_rasters ink (commands (shingled_bytes p h (tall * row_units p))).entries ≤ shingle_count p.nozzles p.pitch h.height
-unfolding shingled_bytes
-shingled-passes p h tall can fits size ink =
-    let passes : ℕ = shingle_count p.nozzles p.pitch h.height in
-    let many : length (shingled p h).list ≡ passes = length-map (count_from 0 passes) (shingled_stroke p h) ∙ count_from-len 0 passes in
-    omega (
-      arith,
-      strokes-have p h page_coding (shingled p h) tall can page-coded size (shingles-fire p h can fits) ink,
-      count_by-le-length (fires_with ink) (shingled p h).list,
-      many,
-    )

@@ -6,16 +6,15 @@ ghost use Rattle.escp2_definitions.specs.Rasters.{ink_rasters};
 ghost use Rattle.escp2_definitions.specs.Written.{Coding, IsCoding, plain};
 ghost use Rattle.page_definitions.specs.Dots.{Halftone, HasDots, dots_wanted, wanted};
 ghost use Rattle.page_definitions.specs.PageBytes.{halftone_bytes, page_bytes, page_coding, weave};
-ghost use Rattle.page_definitions.specs.Printing.{GivesSheet, HasPasses, HavePasses, Prints};
+ghost use Rattle.page_definitions.specs.Printing.{GivesSheet, Prints};
 ghost use Rattle.page_definitions.specs.Strokes.{Fires, Strokes, has_dot, strokes_bytes};
 ghost use Rattle.page_laws.specs.Sized.{Sized};
 ghost use Rattle.page_laws.specs.Stroked.{FirePages, stroked_bytes};
 ghost use Rattle.printer_definitions.specs.Inks.{inks_of, same_ink};
 ghost use Rattle.printer_definitions.specs.Printer.{Printer, row_units};
 ghost use Rattle.printer_definitions.specs.declared.inks.Ink.{Ink};
-ghost use Rattle.pwg_definitions.specs.Stream.{IsPage, Page};
+ghost use Rattle.pwg_definitions.specs.Stream.{Page};
 ghost use Rattle.separation_definitions.specs.CanPrint.{ArePages, CanPrint};
-ghost use Rattle.separation_definitions.specs.Windows.{wanted_by};
 ghost use Rattle.std.specs.List.{flat_map, list_any, sum_by};
 ghost use Rattle.std.specs.Prelude.{Bool, List, Some, count_by, false, length, slice_get, ℕ, ◌*◌, ◌+◌, ◌/◌, ◌≡◌, ◌≤◌};
 ghost use Rattle.base_definitions.specs.Counting.{count_from};
@@ -68,14 +67,6 @@ pub fn strokes_have_rasters()
         → CanPrint p → IsCoding coding → Sized p h tall → Fires p h strokes → (ink : Ink)
         → ink_rasters ink (commands (strokes_bytes coding p h.width h.height (tall * row_units p) strokes)).entries
         ≤ count_by (λ stroke. has_dot (stroke.rows ink)) strokes.list }
-{}
-
-/// The job of a page takes no more rasters of an ink than the head takes passes over the page's window.
-pub fn pages_have_passes()
-    ensures one_page { (p : Printer) (k : Table) (page : Page)
-        → CanPrint p → IsPage (wanted_by p) page → HasPasses p k page }
-    ensures each_page { (p : Printer) (k : Table) (pages : List Page)
-        → CanPrint p → ArePages p pages → HavePasses p k pages }
 {}
 
 /// A halftone has as many dots of an ink as a table of its dots has in the ink's plane, and none of an ink outside

@@ -20,9 +20,8 @@ pub use examples::{
 };
 pub use healed::{dead_rows_are_blank, healed_fires, healed_have_passes, worked_rows_are_healed};
 pub use laws::{
-    counts_of_planes, page_is_short, pages_are_printed, pages_have_passes, rows_are_coded,
-    stroked_pages_are_printed, strokes_are_printed, strokes_have_rasters, wanted_are_distinct,
-    weave_fires,
+    counts_of_planes, page_is_short, pages_are_printed, rows_are_coded, stroked_pages_are_printed,
+    strokes_are_printed, strokes_have_rasters, wanted_are_distinct, weave_fires,
 };
 pub use rows::rasters_have_rows;
 pub use shingled::{

@@ -3,7 +3,8 @@
 
 ghost use Rattle.diffusion_definitions.specs.Diffusion.{Table};
 ghost use Rattle.page_definitions.specs.Printing.{Prints};
-ghost use Rattle.page_definitions.specs.Ways.{CanGo, KeepTo, Way, page_bytes_by};
+ghost use Rattle.page_definitions.specs.Ways.{CanGo, KeepTo, page_bytes_by};
+ghost use Rattle.page_definitions.specs.declared.way.Way.{Way};
 ghost use Rattle.printer_definitions.specs.Printer.{Printer};
 ghost use Rattle.pwg_definitions.specs.Stream.{Page};
 ghost use Rattle.separation_definitions.specs.CanPrint.{ArePages, CanPrint};
