@@ -1,5 +1,5 @@
 -- What the inks fire in a stroke, one after another.
-use Rattle.std.proofs.Common.{◌≡◌, ℕ, zero, suc, ◌+◌, ◌*◌, ◌/◌, ◌≤◌, ◌||◌, nat_lt, Bool, List, [], ◌∷◌, ◌++◌, length}
+use Rattle.std.proofs.Common.{◌≡◌, ℕ, zero, suc, ◌+◌, ◌*◌, ◌/◌, ◌^◌, ◌<◌, ◌≤◌, ◌||◌, nat_lt, Bool, List, [], ◌∷◌, ◌++◌, length}
 use Rattle.std.proofs.Common.{drop, Some, refl, sym, ◌∙◌, ap, arith, append_assoc, append-nil}
 use Rattle.std.specs.Prelude.{slice_get}
 use Rattle.std.specs.List.{flat_map, list_any}
@@ -17,10 +17,11 @@ use Rattle.printer_definitions.specs.declared.inks.InkSet.TheVariants.{K, Cmy, C
 use Rattle.printer_definitions.specs.Inks.{inks_of}
 use Rattle.printer_definitions.specs.Printer.{Printer}
 use Rattle.separation_definitions.specs.CanPrint.{CanPrint}
+use Rattle.base_definitions.specs.Limits.{most_columns, most_row_bytes}
 use Rattle.page_writer.specs.Heads.{place_in}
 use Rattle.page_writer.specs.StrokeBytes.{IsStroke}
 use Rattle.page_writer.specs.Rows.{rows_commands}
-use Rattle.page_writer.specs.Sums.{most_of_pass, rasters_in}
+use Rattle.page_writer.specs.Sums.{most_ink, most_of_pass, most_pass, rasters_in}
 use Rattle.page_writer.proofs.Fires.{rasters_tell}
 
 -- ---- lists of commands
@@ -159,11 +160,16 @@ inks_few Cmy = omega arith
 inks_few Cmyk = omega arith
 
 -- a stroke of the widest rows, with the most nozzles and inks
-pub pass_short : (p : Printer) (width : ℕ) → CanPrint p → width ≤ 8191 → most_of_pass p width ≤ 2089015
+pub pass_short : (p : Printer) (width : ℕ) → CanPrint p → width ≤ most_columns → most_of_pass p width ≤ most_pass
 pass_short p width can narrow =
-    let bytes : (width + 7) / 8 ≤ 1024 = omega arith in
+    let bytes : (width + 7) / 8 ≤ most_row_bytes = omega arith in
     let heads : 2 * p.nozzles ≤ 510 = omega (arith, can.most_nozzles) in
-    let rows : 2 * p.nozzles * ((width + 7) / 8) ≤ 510 * 1024 = mul-le-mul heads bytes in
-    let one : 12 + 2 * p.nozzles * ((width + 7) / 8) ≤ 522252 = omega (arith, rows) in
-    let inks : length (inks_of p.inks) * (12 + 2 * p.nozzles * ((width + 7) / 8)) ≤ 4 * 522252 = mul-le-mul (inks_few p.inks) one in
+    let rows : 2 * p.nozzles * ((width + 7) / 8) ≤ 510 * most_row_bytes = mul-le-mul heads bytes in
+    let one : 12 + 2 * p.nozzles * ((width + 7) / 8) ≤ most_ink = omega (arith, rows) in
+    let inks : length (inks_of p.inks) * (12 + 2 * p.nozzles * ((width + 7) / 8)) ≤ 4 * most_ink = mul-le-mul (inks_few p.inks) one in
     omega (arith, inks)
+
+-- all that the strokes of a head may take fits a number of 64 bits
+pub strokes_fit : (bytes count most : ℕ) → bytes ≤ count * most → count < 2 ^ 30 → most ≤ most_pass → bytes < 2 ^ 52
+strokes_fit bytes count most so_far few short =
+    let all : count * most ≤ 1073741824 * most_pass = mul-le-mul (let low : count ≤ 1073741824 = omega arith in low) short in omega arith

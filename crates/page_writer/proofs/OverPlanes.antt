@@ -3,7 +3,7 @@ use Rattle.std.proofs.Common.{◌≡◌, ℕ, zero, suc, ◌+◌, ◌-◌, ◌*�
 use Rattle.std.proofs.Common.{filter, replicate, Option, Some, None, refl, sym, ◌∙◌, ap, arith}
 use Rattle.std.specs.Prelude.{slice_get}
 use Rattle.std.specs.List.{AllByRecursion, flat_map, list_any}
-use Rattle.std.proofs.Math.Nat.{mul-le-mul_right}
+use Rattle.std.proofs.Math.Nat.{mul-le-mul_left, mul-le-mul_right}
 use Rattle.std.proofs.lemmas.List.{length-map, length-replicate}
 use Rattle.base_definitions.specs.Counting.{count_from}
 use Rattle.base_definitions.specs.Limits.{most_columns, most_rows}
@@ -14,7 +14,7 @@ use Rattle.page_definitions.specs.PageBytes.{fired_row, page_coding}
 use Rattle.page_definitions.specs.Strokes.{Spoken, Stroke, down_by, fires, has_dot, ink_commands, inks_commands, page_commands, prologue}
 use Rattle.page_definitions.specs.Strokes.{raster_header, say, strokes_commands}
 use Rattle.page_laws.specs.Sized.{Sized}
-use Rattle.page_laws.proofs.Numbers.{form-sized}
+use Rattle.page_laws.proofs.Numbers.{form-sized, row_units-some}
 use Rattle.page_laws.proofs.Passes.{count_from-len}
 use Rattle.printer_definitions.specs.declared.inks.Ink.{Ink}
 use Rattle.printer_definitions.specs.Inks.{inks_of}
@@ -35,6 +35,7 @@ use Rattle.page_writer.proofs.Inks.{place_is}
 pub record IsOnSheet (p : Printer) (t : DotTable) : Type 0 where
   pub columns : t.width ≤ most_columns
   pub sheet : (p.top + t.rows) * row_units p ≤ most_rows
+  pub low : p.top + t.rows ≤ most_rows
 
 pub on_sheet : (p : Printer) (t : DotTable) (f : PageForm) → CanPrint p → IsWanted (wanted_by p) f
     → t.width ≡ (window_of f p).width → t.rows ≡ (window_of f p).height → IsOnSheet p t
@@ -42,7 +43,8 @@ on_sheet p t f can wanted width rows =
     let h : Halftone = record { width = t.width; height = t.rows; dot = λ ink y x. dot t 0 y x } in
     let size : Sized p h f.height = form-sized p h f can wanted width rows in
     let less : (p.top + t.rows) * row_units p ≤ f.height * row_units p = mul-le-mul_right (row_units p) size.low in
-    record { columns = size.most_width; sheet = omega (arith, less, size.short) }
+    let units : (p.top + t.rows) * 1 ≤ (p.top + t.rows) * row_units p = mul-le-mul_left (p.top + t.rows) (row_units-some p can) in
+    record { columns = size.most_width; sheet = omega (arith, less, size.short); low = omega (arith, units, less, size.short) }
 
 -- a row is as wide as its plane
 pub plane_row-len : (t : DotTable) (place : ℕ) (row : Option ℕ) → length (plane_row t place row) ≡ t.width

@@ -22,8 +22,7 @@ use Rattle.page_writer.specs.declared.coded.Coded.{Coded}
 use Rattle.page_writer.specs.declared.coded.Piece.{Piece}
 use Rattle.page_writer.specs.declared.coded.Run.{Run}
 use Rattle.page_writer.specs.declared.coded.Sent.{Sent}
-use Rattle.page_writer.proofs.Inks.{pass_short, rasters-append}
-use Rattle.page_writer.proofs.InTurn.{strokes_fit}
+use Rattle.page_writer.proofs.Inks.{pass_short, rasters-append, strokes_fit}
 
 -- ---- facts of each of a list
 
@@ -129,10 +128,10 @@ bytes-join page last at m n there is =
 -- ---- what is sent
 
 -- one part after another
-pub sends_join : {page : HeadPage} {last at m n : ℕ} {a b d : Option (List ℕ)} {one two : Sent}
+sends_both : {page : HeadPage} {last at m n : ℕ} {a b d : Option (List ℕ)} {one two : Sent}
     → SendsStrokes page last at m a b one → SendsStrokes page one.last (at + m) n b d two
     → SendsStrokes page last at (m + n) a d (sent_both one two)
-sends_join {page} {last} {at} {m} {n} {a} {b} {d} {one} {two} first second =
+sends_both {page} {last} {at} {m} {n} {a} {b} {d} {one} {two} first second =
     let whole : sent_bytes page last at (m + n) ≡ sent_bytes page last at m ++ sent_bytes page one.last (at + m) n =
     bytes-join page last at m n one.last first.left in
     let P : List ℕ → Type 0 = Appends a d in
@@ -161,83 +160,31 @@ sends_join {page} {last} {at} {m} {n} {a} {b} {d} {one} {two} first second =
       few = omega (arith, first.few, second.few);
     }
 
--- a part was sent whole, and a part behind it was not: of these and any after them
-pub part_join : {page : HeadPage} {last at m : ℕ} {a b d : Option (List ℕ)} {one : Sent} (n rest : ℕ)
-    → SendsStrokes page last at m a b one → AppendsPart b d (sent_bytes page one.last (at + m) n)
-    → AppendsPart a d (sent_bytes page last at (m + (n + rest)))
-part_join {page} {last} {at} {m} {a} {b} {d} {one} n rest first part =
-    let there : ℕ = left_at page.p one.last (strokes_in page (at + m) n) in
-    let behind : List ℕ = sent_bytes page there (at + m + n) rest in
-    let two : sent_bytes page one.last (at + m) (n + rest) ≡ sent_bytes page one.last (at + m) n ++ behind =
-    bytes-join page one.last (at + m) n rest there refl in
-    let whole : sent_bytes page last at (m + (n + rest))
-    ≡ sent_bytes page last at m ++ (sent_bytes page one.last (at + m) n ++ behind) =
-    bytes-join page last at m (n + rest) one.last first.left ∙ ap (λ bs. sent_bytes page last at m ++ bs) two in
+-- the same where the second part begins at this stroke, and this is how many strokes both have
+pub sends_join : {page : HeadPage} {last at m next n both : ℕ} {a b d : Option (List ℕ)} {one two : Sent}
+    → next ≡ at + m → both ≡ m + n → SendsStrokes page last at m a b one → SendsStrokes page one.last next n b d two
+    → SendsStrokes page last at both a d (sent_both one two)
+sends_join {page} {last} {at} {m} {next} {n} {both} {a} {b} {d} {one} {two} there all first second =
+    let P : ℕ → Type 0 = λ k. SendsStrokes page one.last k n b d two in
+    let Q : ℕ → Type 0 = λ k. SendsStrokes page last at k a d (sent_both one two) in
+    subst Q (sym all) (sends_both first (subst P there second))
+
+-- the first part was sent whole, and the second was not: of both and any strokes after them
+pub part_join : {page : HeadPage} {last at m : ℕ} {a b d : Option (List ℕ)} {one : Sent} (next n whole : ℕ)
+    → next ≡ at + m → m + n ≤ whole → SendsStrokes page last at m a b one → AppendsPart b d (sent_bytes page one.last next n)
+    → AppendsPart a d (sent_bytes page last at whole)
+part_join {page} {last} {at} {m} {a} {b} {d} {one} next n whole there within first part =
+    let rest : ℕ = whole - (m + n) in
+    let behind : List ℕ = sent_bytes page (left_at page.p one.last (strokes_in page (at + m) n)) (at + m + n) rest in
+    let all : whole ≡ m + (n + rest) = omega arith in
+    let is : sent_bytes page last at whole ≡ sent_bytes page last at m ++ (sent_bytes page one.last next n ++ behind) =
+    ap (sent_bytes page last at) all
+    ∙ bytes-join page last at m (n + rest) one.last first.left
+    ∙ ap (λ bs. sent_bytes page last at m ++ bs) (bytes-join page one.last (at + m) n rest _ refl)
+    ∙ ap (λ k. sent_bytes page last at m ++ (sent_bytes page one.last k n ++ behind)) (sym there) in
     let P : List ℕ → Type 0 = AppendsPart a d in
-    subst P (sym whole) (part_behind a b d (sent_bytes page last at m) (sent_bytes page one.last (at + m) n ++ behind)
-    first.appends (part_of_front b d (sent_bytes page one.last (at + m) n) behind part))
-
--- one part after another, of the strokes from `first` to before `end`
-pub sends_more : {page : HeadPage} {last first mid n end : ℕ} {a b d : Option (List ℕ)} {one two : Sent}
-    → first ≤ mid → end ≡ mid + n
-    → SendsStrokes page last first (mid - first) a b one → SendsStrokes page one.last mid n b d two
-    → SendsStrokes page last first (end - first) a d (sent_both one two)
-sends_more {page} {last} {first} {mid} {n} {end} {a} {b} {d} {one} {two} low is done more =
-    let there : mid ≡ first + (mid - first) = omega arith in
-    let whole : mid - first + n ≡ end - first = omega arith in
-    let P : ℕ → Type 0 = λ k. SendsStrokes page one.last k n b d two in
-    let Q : ℕ → Type 0 = λ k. SendsStrokes page last first k a d (sent_both one two) in
-    subst Q whole (sends_join done (subst P there more))
-
-pub part_more : {page : HeadPage} {last first mid : ℕ} {a b d : Option (List ℕ)} {one : Sent} (n end : ℕ)
-    → first ≤ mid → mid + n ≤ end
-    → SendsStrokes page last first (mid - first) a b one → AppendsPart b d (sent_bytes page one.last mid n)
-    → AppendsPart a d (sent_bytes page last first (end - first))
-part_more {page} {last} {first} {mid} {a} {b} {d} {one} n end low within done part =
-    let there : mid ≡ first + (mid - first) = omega arith in
-    let whole : mid - first + (n + (end - (mid + n))) ≡ end - first = omega arith in
-    let P : ℕ → Type 0 = λ k. AppendsPart b d (sent_bytes page one.last k n) in
-    let Q : ℕ → Type 0 = λ k. AppendsPart a d (sent_bytes page last first k) in
-    subst Q whole (part_join n (end - (mid + n)) done (subst P there part))
-
--- the same of a piece, whose bounds are these
-pub sends_piece : {page : HeadPage} {last first begin end : ℕ} {a b d : Option (List ℕ)} {one two : Sent} (mid stop : ℕ)
-    → begin ≡ mid → end ≡ stop → first ≤ mid → mid ≤ stop
-    → SendsStrokes page last first (mid - first) a b one → SendsStrokes page one.last begin (end - begin) b d two
-    → SendsStrokes page last first (stop - first) a d (sent_both one two)
-sends_piece {page} {last} {first} {begin} {end} {a} {b} {d} {one} {two} mid stop begins ends low rises done more =
-    let P : ℕ → Type 0 = λ n. SendsStrokes page one.last n (end - n) b d two in
-    let Q : ℕ → Type 0 = λ n. SendsStrokes page one.last mid (n - mid) b d two in
-    sends_more low (omega arith) done (subst Q ends (subst P begins more))
-
-pub part_piece : {page : HeadPage} {last first begin end : ℕ} {a b d : Option (List ℕ)} {one : Sent} (mid stop whole : ℕ)
-    → begin ≡ mid → end ≡ stop → first ≤ mid → mid ≤ stop → stop ≤ whole
-    → SendsStrokes page last first (mid - first) a b one → AppendsPart b d (sent_bytes page one.last begin (end - begin))
-    → AppendsPart a d (sent_bytes page last first (whole - first))
-part_piece {page} {last} {first} {begin} {end} {a} {b} {d} {one} mid stop whole begins ends low rises within done part =
-    let P : ℕ → Type 0 = λ n. AppendsPart b d (sent_bytes page one.last n (end - n)) in
-    let Q : ℕ → Type 0 = λ n. AppendsPart b d (sent_bytes page one.last mid (n - mid)) in
-    part_more (stop - mid) whole low (omega arith) done (subst Q ends (subst P begins part))
-
--- the same of the first strokes of a page
-pub sends_first : {page : HeadPage} {last mid n end : ℕ} {a b d : Option (List ℕ)} {one two : Sent}
-    → end ≡ mid + n → SendsStrokes page last 0 mid a b one → SendsStrokes page one.last mid n b d two
-    → SendsStrokes page last 0 end a d (sent_both one two)
-sends_first {page} {last} {mid} {n} {end} {a} {b} {d} {one} {two} is done more =
-    let there : mid ≡ 0 + mid = omega arith in
-    let P : ℕ → Type 0 = λ k. SendsStrokes page one.last k n b d two in
-    let Q : ℕ → Type 0 = λ k. SendsStrokes page last 0 k a d (sent_both one two) in
-    subst Q (sym is) (sends_join done (subst P there more))
-
-pub part_first : {page : HeadPage} {last mid : ℕ} {a b d : Option (List ℕ)} {one : Sent} (n end : ℕ)
-    → mid + n ≤ end → SendsStrokes page last 0 mid a b one → AppendsPart b d (sent_bytes page one.last mid n)
-    → AppendsPart a d (sent_bytes page last 0 end)
-part_first {page} {last} {mid} {a} {b} {d} {one} n end within done part =
-    let there : mid ≡ 0 + mid = omega arith in
-    let whole : mid + (n + (end - (mid + n))) ≡ end = omega arith in
-    let P : ℕ → Type 0 = λ k. AppendsPart b d (sent_bytes page one.last k n) in
-    let Q : ℕ → Type 0 = λ k. AppendsPart a d (sent_bytes page last 0 k) in
-    subst Q whole (part_join n (end - (mid + n)) done (subst P there part))
+    subst P (sym is) (part_behind a b d (sent_bytes page last at m) (sent_bytes page one.last next n ++ behind)
+    first.appends (part_of_front b d (sent_bytes page one.last next n) behind part))
 
 -- ---- the bounds of a batch's pieces
 

@@ -8,3 +8,4 @@ pub mod AtMost
 pub mod Shingles
 pub mod Healed
 pub mod Pieces
+pub mod Writes

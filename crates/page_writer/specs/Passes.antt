@@ -11,11 +11,7 @@ abbrev pub plane_row : DotTable → ℕ → Option ℕ → List Bool
 plane_row t place (Some y) = map (dot t place y) (count_from 0 t.width)
 plane_row t place None = replicate t.width false
 
--- the row of an ink at a nozzle in a pass
-abbrev pub nozzle_plane_row : DotTable → Weaving → ℕ → ℕ → ℕ → List Bool
-nozzle_plane_row t plan place pass nozzle = plane_row t place (nozzle_row plan.nozzles plan.pitch plan.height pass nozzle)
-
--- The strokes of a plan are its passes.
+-- The strokes of a plan are its passes. A nozzle fires a row of each ink's plane, blank off the window.
 abbrev pub pass_strokes : Weaving → HeadStrokes
 pass_strokes plan = record {
   rows = plan.height;
@@ -23,5 +19,5 @@ pass_strokes plan = record {
   above = (plan.nozzles - 1) * plan.pitch;
   count = pass_count plan.nozzles plan.pitch plan.height;
   start = λ pass. pass * plan.nozzles;
-  row = λ t pass place nozzle. nozzle_plane_row t plan place pass nozzle;
+  row = λ t pass place nozzle. plane_row t place (nozzle_row plan.nozzles plan.pitch plan.height pass nozzle);
 }

@@ -1,12 +1,11 @@
 -- The bytes of a stroke.
-use Rattle.std.specs.Prelude.{◌≡◌, ℕ, ◌*◌, nat_lt, if◌then◌else◌, List, [], ◌++◌, filter, length}
+use Rattle.std.specs.Prelude.{◌≡◌, ℕ, nat_lt, List, ◌++◌, filter}
 use Rattle.page_definitions.specs.PageBytes.{page_coding}
-use Rattle.page_definitions.specs.Strokes.{Spoken, Stroke, Strokes, bytes_of, down_by, fires, inks_commands, strokes_bytes, strokes_commands}
+use Rattle.page_definitions.specs.Strokes.{Spoken, Stroke, Strokes, bytes_of, fires, inks_commands, strokes_bytes, strokes_commands}
 use Rattle.dot_planes.specs.Tables.{DotTable}
 use Rattle.page_writer.specs.Heads.{HeadStrokes, strokes_over}
 use Rattle.page_writer.specs.Sums.{rasters_in}
-use Rattle.page_writer.specs.declared.sums.PageSum.{PageSum}
-use Rattle.printer_definitions.specs.Printer.{Printer, row_units}
+use Rattle.printer_definitions.specs.Printer.{Printer}
 
 -- The bytes of what the inks fire in a stroke are appended, with this many rasters: at least one where an ink fires a
 -- dot.
@@ -14,19 +13,6 @@ pub record IsStroke (p : Printer) (width : ℕ) (stroke : Stroke) (old new : Lis
   pub items : new ≡ old ++ bytes_of page_coding.code (inks_commands p width page_coding.c stroke)
   pub rasters_are : rasters ≡ rasters_in (inks_commands p width page_coding.c stroke)
   pub fire : nat_lt 0 rasters ≡ fires p stroke
-
--- the bytes of a stroke, `down` rows below the one before; none where no ink has a dot in it
-abbrev pub stroke_bytes : Printer → ℕ → Stroke → ℕ → List ℕ
-stroke_bytes p width stroke down =
-    if fires p stroke
-    then bytes_of page_coding.code (down_by (down * row_units p)) ++ bytes_of page_coding.code (inks_commands p width page_coding.c stroke)
-    else []
-
--- A stroke has these bytes and rasters.
-pub record IsStrokeSum (p : Printer) (width : ℕ) (stroke : Stroke) (down : ℕ) (sum : PageSum) : Type 0 where
-  pub bytes : sum.bytes ≡ length (stroke_bytes p width stroke down)
-  pub rasters : sum.rasters ≡ rasters_in (inks_commands p width page_coding.c stroke)
-  pub fire : nat_lt 0 sum.rasters ≡ fires p stroke
 
 -- the commands of the strokes that have a dot
 abbrev pub fired_strokes : Printer → ℕ → Strokes → List Spoken

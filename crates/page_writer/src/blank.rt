@@ -1,22 +1,20 @@
 //! Rows without dots.
-ghost use Rattle.base_definitions.specs.Limits.{most_columns};
+ghost use Rattle.base_definitions.specs.Limits.{most_columns, most_row_bytes};
 ghost use Rattle.base_definitions.specs.Packed.{packed};
 ghost use Rattle.page_writer.specs.Passes.{plane_row as plane_row_of};
 ghost use Rattle.std.specs.List.{list_all};
 ghost use Rattle.std.specs.Prelude.{IfSome, replicate, ◌<◌, ◌==◌, ◌≡◌, ◌≤◌};
 
+use base_definitions::MOST_ROW_BYTES;
 use dot_planes::Planes;
 
-/// The bytes of the widest row, which has 8191 columns.
-pub(crate) const WIDEST_ROW: usize = 1024;
-
 // The widest row, without dots.
-static BLANK: [u8; WIDEST_ROW] = [0; WIDEST_ROW];
+static BLANK: [u8; MOST_ROW_BYTES] = [0; MOST_ROW_BYTES];
 
 /// The first `len` bytes of a row without dots.
 #[inline]
 pub fn blank_row(len: usize) -> &'static [u8]
-    requires { len ≤ 1024 }
+    requires { len ≤ most_row_bytes }
     ensures { result.now ≡ replicate len 0 }
 {
     &BLANK[..len]

@@ -1,11 +1,12 @@
 //! Strokes are coded into room of their own.
+ghost use Rattle.base_definitions.specs.Limits.{most_row_bytes};
 ghost use Rattle.page_writer.specs.Heads.{IsPage};
 ghost use Rattle.page_writer.specs.Pieces.{AllRoomy, AreCoded, HasRoom, IsCoded};
 ghost use Rattle.std.specs.Prelude.{length, vec_capacity, vec_len, ◌+◌, ◌<◌, ◌≡◌, ◌≤◌};
 
-use crate::blank::WIDEST_ROW;
 use crate::coded::Coded;
 use crate::page_strokes::Strokes;
+use base_definitions::MOST_ROW_BYTES;
 
 /// The most bytes of a step down.
 pub(crate) const STEP: usize = 7;
@@ -21,11 +22,11 @@ fn append_room(out: &mut Vec<u8>)
     out.extend_from_slice(&room).unwrap();
 }
 
-// Codes a stroke. The row is as long as the widest one.
-fn code_stroke<S: Strokes>(page: &S, stroke: u32, row: &mut [u8], coded: &mut Coded)
+/// Codes a stroke. The row is as long as the widest one.
+pub(crate) fn code_stroke<S: Strokes>(page: &S, stroke: u32, row: &mut [u8], coded: &mut Coded)
     requires page { IsPage (S.page page.now) }
     requires stroke { stroke < (S.page page.now).head.count }
-    requires row { 1024 ≤ length row.old }
+    requires row { most_row_bytes ≤ length row.old }
     requires room { HasRoom (S.page page.now) coded.old }
     ensures coded { IsCoded (S.page page.now) stroke coded.new }
     ensures room { HasRoom (S.page page.now) coded.new }
@@ -45,7 +46,7 @@ pub(crate) fn code_strokes<S: Strokes>(page: &S, first: u32, end: u32, strokes: 
     ensures coded { AreCoded (S.page page.now) first end strokes.new }
     ensures room { AllRoomy (S.page page.now) strokes.new }
 {
-    let mut row = [0u8; WIDEST_ROW];
+    let mut row = [0u8; MOST_ROW_BYTES];
     'strokes: for stroke in first..end {
         code_stroke(
             page,

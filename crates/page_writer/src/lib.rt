@@ -12,23 +12,19 @@
 //! a dot, so a stroke is coded behind seven bytes of room, into which the caller puts the step. The bytes are the same
 //! for any number of workers; that several work at once is not claimed.
 //!
-//! `write_page` writes the interleaved passes of `weave_definitions::Plan`. It takes a profile that passes its checks,
-//! a form that the printer takes, and planes of the window's size. The same holds of the bytes of each halftone whose
-//! dots the planes have; and they give one sheet with exactly the halftone's dots (`prints`), with at most one raster
-//! of an ink for each pass (`passes`).
+//! `write_by_way` writes a page by the way of its head, a `Way` of which the head is capable: the interleaved passes of
+//! `weave_definitions::Plan`, the shingled passes of `shingle_plan::ShinglePlan`, or the strokes of
+//! `dead_nozzles::StrokePlan` around dead nozzles. It takes a profile that passes its checks, a form that the printer
+//! takes, and planes of the window's size. The same holds of the bytes of each halftone whose dots the planes have; and
+//! they give one sheet with exactly the halftone's dots (`prints`), with no more rasters of an ink than the way takes,
+//! in rows that have what they may have (`keeps`). `write_page`, `write_shingled` and `write_healed` are the same, each
+//! for its way.
 //!
-//! `write_shingled` writes the shingled passes of `shingle_plan::ShinglePlan` for a head that can shingle, with the
-//! same clauses over their bytes; and no row of their rasters has dots both at even and at odd columns (`columns`).
-//!
-//! `write_healed` writes the strokes of `dead_nozzles::StrokePlan` for a head with dead nozzles, with the same clauses
-//! over their bytes; and no row of their rasters has a dot where its nozzle is dead (`spared`). There is at most one
-//! raster of an ink for each pass and for each row that is made up. Its plan's memory is taken before the first byte
-//! too.
-//!
-//! `short` bounds the bytes: at most 49 + passes * (7 + inks * (12 + 2 * nozzles * bytes of a row)). That a stroke is
+//! `short` bounds the bytes: at most 49 + strokes * (7 + inks * (12 + 2 * nozzles * bytes of a row)). That a stroke is
 //! one call of `put_all`, and so are the commands before the strokes and those after them, is left to tests.
 #![tactic(auto)]
 
+mod alone;
 mod batches;
 mod blank;
 mod coded;
@@ -37,28 +33,25 @@ mod coding;
 mod cut;
 mod halves;
 mod head;
-mod healed;
 mod ink;
 mod numbers;
-mod page;
 mod page_strokes;
 mod passes;
 mod prologue;
 mod room;
 mod rows;
 mod sending;
-mod shingled;
 mod shingles;
 mod stroke;
 mod strokes;
 mod sums;
+mod ways;
 mod worn;
 
 pub use dot_planes::Planes;
 pub use head::Head;
-pub use healed::write_healed;
-pub use page::write_page;
+pub use page_definitions::Way;
 pub use printer_profile::{PageForm, Profile, Window};
-pub use shingled::write_shingled;
 pub use strokes::{WriteStop, write_strokes};
 pub use sums::{PageSum, most_bytes};
+pub use ways::{write_by_way, write_healed, write_page, write_shingled};

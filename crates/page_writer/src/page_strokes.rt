@@ -1,5 +1,5 @@
 //! The strokes of a page, whichever head they are of.
-ghost use Rattle.base_definitions.specs.Limits.{most_rows};
+ghost use Rattle.base_definitions.specs.Limits.{most_row_bytes, most_rows};
 ghost use Rattle.page_definitions.specs.PageBytes.{page_coding};
 ghost use Rattle.page_definitions.specs.Strokes.{bytes_of, down_by};
 ghost use Rattle.page_writer.specs.Heads.{HeadPage, IsPage, stroke_over};
@@ -33,7 +33,7 @@ pub(crate) trait Strokes {
     fn append(&self, stroke: u32, room: &mut [u8], out: &mut Vec<u8>) -> u32
         requires page { IsPage (page self.now) }
         requires stroke { stroke < (page self.now).head.count }
-        requires room { 1024 ≤ length room.old }
+        requires room { most_row_bytes ≤ length room.old }
         requires space { vec_len out.old + (page self.now).t.inks
             * (12 + 2 * (page self.now).p.nozzles * (((page self.now).t.width + 7) / 8)) ≤ vec_capacity out.old }
         ensures inks { IsStroke (page self.now).p (page self.now).t.width

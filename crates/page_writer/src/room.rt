@@ -49,6 +49,16 @@ pub(crate) struct Batches<'a, S> {
     pub(crate) behind: Vec<Coder<'a, S>>,
 }
 
+impl Coded {
+    /// Room for the code of a stroke of so many bytes.
+    pub(crate) fn make(alloc: Global, most: usize) -> Result<Coded, Memory>
+        ensures { IfOk result (λ coded. most ≤ vec_capacity coded.code) }
+    {
+        let code = Vec::with_capacity(alloc, most)?;
+        Ok(Coded { code, rasters: 0 })
+    }
+}
+
 // A piece with room for so many strokes, of so many bytes each.
 fn make_piece(alloc: Global, each: u32, most: usize) -> Result<Piece, Memory>
     ensures many { IfOk result (λ piece. length piece.strokes.items ≡ each) }
@@ -56,8 +66,7 @@ fn make_piece(alloc: Global, each: u32, most: usize) -> Result<Piece, Memory>
 {
     let mut strokes = Vec::with_capacity(alloc, each as usize)?;
     'strokes: for _ in 0..each {
-        let code = Vec::with_capacity(alloc, most)?;
-        strokes.push_reserved(Coded { code, rasters: 0 });
+        strokes.push_reserved(Coded::make(alloc, most)?);
     }
     Ok(Piece {
         first: 0,

@@ -50,8 +50,8 @@ fn put_step(step: &[u8], code: &mut [u8]) -> usize
     begin
 }
 
-// Sends a stroke, or nothing where no ink has a dot in it. The head is on row `last`.
-fn put_coded<S: Strokes, K: Sink>(
+/// Sends a stroke, or nothing where no ink has a dot in it. The head is on row `last`.
+pub(crate) fn put_coded<S: Strokes, K: Sink>(
     page: &S,
     stroke: u32,
     coded: &mut Coded,

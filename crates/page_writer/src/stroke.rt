@@ -2,24 +2,16 @@
 ghost use Rattle.page_definitions.specs.PageBytes.{page_coding};
 ghost use Rattle.page_definitions.specs.Strokes.{bytes_of, down_by};
 ghost use Rattle.page_writer.specs.Heads.{Suits, stroke_over};
-ghost use Rattle.page_writer.specs.StrokeBytes.{IsStroke, IsStrokeSum, stroke_bytes};
-ghost use Rattle.page_writer.specs.Sums.{most_of_pass};
-ghost use Rattle.printer_definitions.specs.Printer.{row_units as row_units_of};
-ghost use Rattle.base_definitions.specs.Limits.{most_rows};
-ghost use Rattle.std.specs.Io.KnownBytes.{Appends};
-ghost use Rattle.std.specs.Prelude.{IfOk, OnErr, OnOk, length, vec_capacity, vec_len, ◌*◌, ◌++◌};
+ghost use Rattle.page_writer.specs.StrokeBytes.{IsStroke};
+ghost use Rattle.std.specs.Prelude.{length, vec_capacity, vec_len, ◌*◌, ◌++◌};
 ghost use Rattle.std.specs.Prelude.{◌+◌, ◌/◌, ◌<◌, ◌≡◌, ◌≤◌};
-ghost use Rattle.weave_base.specs.Causes.{HasCause};
-ghost use Rattle.weave_base.specs.Parts.{AppendsPart};
 
 use crate::head::Head;
 use crate::ink::append_ink;
-use crate::numbers::{raster_header, row_units};
-use crate::sums::PageSum;
+use crate::numbers::raster_header;
 use dot_planes::Planes;
 use escp2_writer::{Command, append_header};
 use printer_profile::Profile;
-use weave_base::{Failed, Sink, put_all};
 
 /// Appends a step down by this many units; nothing for 0.
 pub(crate) fn append_step(units: u16, out: &mut Vec<u8>)
@@ -61,45 +53,4 @@ pub(crate) fn append_inks<H: Head>(
         rasters += append_ink(head, planes, header, place, ink, stroke, room, out);
     }
     rasters
-}
-
-/// Writes a whole stroke, or nothing where no ink has a dot in it. The head is `down` rows above the stroke.
-pub fn put_stroke<H: Head, K: Sink>(
-    profile: &Profile,
-    planes: &Planes,
-    head: &H,
-    stroke: u32,
-    down: u32,
-    room: &mut [u8],
-    out: &mut Vec<u8>,
-    sink: &mut K,
-) -> Result<PageSum, Failed>
-    requires suits { Suits profile.now (H.strokes head.now) planes.now }
-    requires stroke { stroke < (H.strokes head.now).count }
-    requires down { down * row_units_of profile.now ≤ most_rows }
-    requires room { length room.old ≡ (planes.now.width + 7) / 8 }
-    requires space { most_of_pass profile.now planes.now.width ≤ vec_capacity out.old }
-    ensures ok { OnOk result (Appends (K.held sink.old) (K.held sink.new) (stroke_bytes profile.now planes.now.width
-        (stroke_over profile.now (H.strokes head.now) planes.now stroke) down)) }
-    ensures sum { IfOk result (IsStrokeSum profile.now planes.now.width
-        (stroke_over profile.now (H.strokes head.now) planes.now stroke) down) }
-    ensures part { OnErr result (AppendsPart (K.held sink.old) (K.held sink.new)
-        (stroke_bytes profile.now planes.now.width
-        (stroke_over profile.now (H.strokes head.now) planes.now stroke) down)) }
-    ensures cause { HasCause (K.faults sink.old) (K.faults sink.new) result }
-    ensures few { IfOk result (λ sum. sum.rasters ≤ 4) }
-    ensures short { IfOk result (λ sum. sum.bytes ≤ most_of_pass profile.now planes.now.width) }
-    ensures capacity { vec_capacity out.old ≤ vec_capacity out.new }
-{
-    out.clear();
-    append_step(down as u16 * row_units(profile), out);
-    let rasters = append_inks(profile, planes, head, stroke, room, out);
-    if rasters == 0 {
-        return Ok(PageSum { bytes: 0, rasters });
-    }
-    put_all(sink, out)?;
-    Ok(PageSum {
-        bytes: out.len() as u64,
-        rasters,
-    })
 }

@@ -1,5 +1,6 @@
 //! The size of a page's job.
-ghost use Rattle.page_writer.specs.Sums.{most_of_page, most_of_pass as most_of_pass_of};
+ghost use Rattle.page_definitions.specs.declared.way.Way.TheVariants.{Woven};
+ghost use Rattle.page_writer.specs.Sums.{most_ink, most_of_page, most_of_pass as most_of_pass_of, most_pass};
 ghost use Rattle.base_definitions.specs.Limits.{most_columns, most_rows};
 ghost use Rattle.separation_definitions.specs.CanPrint.{CanPrint};
 ghost use Rattle.std.specs.Prelude.{◌*◌, ◌+◌, ◌/◌, ◌≡◌, ◌≤◌};
@@ -29,7 +30,7 @@ pub struct PageSum {
 fn most_of_ink(nozzles: u8, width: u32) -> u64
     requires { width ≤ most_columns }
     ensures is { result ≡ 12 + 2 * nozzles * ((width + 7) / 8) }
-    ensures most { result ≤ 522252 }
+    ensures most { result ≤ most_ink }
 {
     INK_HEAD + 2 * u64::from(nozzles) * ((u64::from(width) + 7) / 8)
 }
@@ -38,7 +39,7 @@ fn most_of_ink(nozzles: u8, width: u32) -> u64
 pub(crate) fn most_of_pass(profile: &Profile, width: u32) -> u64
     requires { width ≤ most_columns }
     ensures is { result ≡ most_of_pass_of profile.now width }
-    ensures most { result ≤ 2089015 }
+    ensures most { result ≤ most_pass }
 {
     STEP as u64 + u64::from(profile.inks.count()) * most_of_ink(profile.nozzles, width)
 }
@@ -50,7 +51,7 @@ pub fn most_bytes(profile: &Profile, window: Window) -> u64
     requires width { window.width ≤ most_columns }
     requires some_rows { 1 ≤ window.height }
     requires most_rows { window.height ≤ most_rows }
-    ensures { result ≡ most_of_page profile.now window.width window.height }
+    ensures { result ≡ most_of_page Woven profile.now window.width window.height }
 {
     let plan = Plan::make(profile.nozzles, profile.pitch, window.height);
     FRAME + u64::from(plan.passes()) * most_of_pass(profile, window.width)

@@ -4,17 +4,20 @@ use Rattle.page_writer.specs.Heads.{HeadPage}
 use Rattle.page_writer.specs.Pieces.{SendsStrokes, bound_of}
 use Rattle.page_writer.specs.declared.coded.Run.{Run}
 use Rattle.page_writer.specs.declared.coded.Sent.{Sent}
-use Rattle.page_writer.proofs.Pieces.{bound_above, bound_rises, each_at, each_step, part_piece, sends_piece, sent_fits}
+use Rattle.page_writer.proofs.Pieces.{bound_above, bound_rises, each_at, each_step, part_join, sends_join, sent_fits}
 use Rattle.page_writer.proofs.batches.put_batch.Goals as goal
 
 pub returns-in_err-one-clause-part : goal.returns-in_err-one-clause-part
 returns-in_err-one-clause-part g c =
     let run : Run = c.args.batch.now.run in
     let i : ℕ = c.pieces.i in
-    on_err_anyway _ (part_piece (bound_of run i) (bound_of run (i + 1)) (bound_of run (length c.args.batch.now.coders.items))
-    c.bound.ensures c.bound-in-pieces.ensures (bound_above run i c.requires.first) (bound_rises run i (i + 1) (omega arith))
-    (bound_rises run (i + 1) (length c.args.batch.now.coders.items)
-    (omega (arith, c.pieces-test.true, c.len-i-end.ensures, c.pieces.invariant.many)))
+    let many : ℕ = length c.args.batch.now.coders.items in
+    let above : run.first ≤ bound_of run i = bound_above run i c.requires.first in
+    let rises : bound_of run i ≤ bound_of run (i + 1) = bound_rises run i (i + 1) (omega arith) in
+    let within : bound_of run (i + 1) ≤ bound_of run many = bound_rises run (i + 1) many
+    (omega (arith, c.pieces-test.true, c.len-i-end.ensures, c.pieces.invariant.many)) in
+    on_err_anyway _ (part_join c.bound.result (c.bound-in-pieces.result - c.bound.result) (bound_of run many - run.first)
+    (omega (arith, above, c.bound.ensures)) (omega (arith, above, rises, within, c.bound.ensures, c.bound-in-pieces.ensures))
     c.pieces.invariant.sent c.in_err-one.ensures.part)
 
 pub and_then-sent-requires-clause-bytes : goal.and_then-sent-requires-clause-bytes
@@ -33,6 +36,8 @@ pieces-preserved g c =
     let page : HeadPage = g.S.Strokes.page c.args.page.now in
     let run : Run = c.args.batch.now.run in
     let i : ℕ = c.pieces.i in
+    let above : run.first ≤ bound_of run i = bound_above run i c.requires.first in
+    let rises : bound_of run i ≤ bound_of run (i + 1) = bound_rises run i (i + 1) (omega arith) in
     let here = (each_at _ i c.index_mut.result.now c.pieces.invariant.pieces (omega arith) c.index_mut.ensures.value).0 in
     record {
       run = c.pieces.invariant.run;
@@ -44,9 +49,8 @@ pieces-preserved g c =
           );
       sent = let P : Sent → Type 0 = SendsStrokes page c.args.last run.first (bound_of run (i + 1) - run.first)
           (g.K.Sink.held c.args.sink.now) (g.K.Sink.held c.put_piece.new.sink) in
-          subst P (sym c.and_then-sent.ensures) (sends_piece (bound_of run i) (bound_of run (i + 1))
-          c.bound.ensures c.bound-in-pieces.ensures (bound_above run i c.requires.first)
-          (bound_rises run i (i + 1) (omega arith)) c.pieces.invariant.sent c.in_ok-one.ensures.ok);
+          subst P (sym c.and_then-sent.ensures) (sends_join (omega (arith, above, c.bound.ensures))
+          (omega (arith, above, rises, c.bound.ensures, c.bound-in-pieces.ensures)) c.pieces.invariant.sent c.in_ok-one.ensures.ok);
       step = omega (arith, c.pieces.invariant.step, c.in_ok-one.ensures.step);
       later = omega (arith, c.pieces.invariant.later, c.in_ok-one.ensures.cause.later);
     }

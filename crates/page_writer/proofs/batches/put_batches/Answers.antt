@@ -8,7 +8,7 @@ use Rattle.page_writer.specs.declared.coded.Run.{Run}
 use Rattle.page_writer.specs.declared.coder.Coder.{Coder}
 use Rattle.page_writer.specs.declared.batches.Batch.{Batch}
 use Rattle.page_writer.specs.declared.coded.Sent.{Sent}
-use Rattle.page_writer.proofs.Pieces.{bound_above, part_first, sends_first, sent_fits}
+use Rattle.page_writer.proofs.Pieces.{bound_above, part_join, sends_join, sent_fits}
 use Rattle.page_writer.proofs.batches.put_batches.Goals as goal
 
 pub returns-in_err-one-clause-part : goal.returns-in_err-one-clause-part
@@ -16,8 +16,8 @@ returns-in_err-one-clause-part g c =
     let run : Run = c.batches.behind.run in
     let many : ℕ = length c.batches.behind.coders.items in
     let above : run.first ≤ bound_of run many = bound_above run many c.batches.invariant.first in
-    on_err_anyway _ (part_first (bound_of run many - run.first) (g.S.Strokes.page c.args.page.now).head.count
-    (omega (arith, above)) c.batches.invariant.sent c.in_err-one.ensures.part)
+    on_err_anyway _ (part_join run.first (bound_of run many - run.first) (g.S.Strokes.page c.args.page.now).head.count
+    (omega arith) (omega (arith, above)) c.batches.invariant.sent c.in_err-one.ensures.part)
 
 pub and_then-sent-requires-clause-bytes : goal.and_then-sent-requires-clause-bytes
 and_then-sent-requires-clause-bytes g c =
@@ -97,7 +97,7 @@ batches-preserved g c =
           subst Q (sym here_is) (subst P (sym here_coders) c.in_ok-one.ensures.ahead_filled);
       next = ap (λ r. bound_of r (length c.swap.new.y.coders.items)) here_is ∙ ap (bound_of run) here_many ∙ sym next_is;
       sent = let P : Sent → Type 0 = SendsStrokes page 0 0 c.swap.new.y.run.first (g.K.Sink.held c.args.sink.now) (g.K.Sink.held c.code_beside.new.sink) in
-          subst P (sym c.and_then-sent.ensures) (sends_first
+          subst P (sym c.and_then-sent.ensures) (sends_join (omega arith)
           (omega (arith, ap (λ (r : Run). r.first) here_is, c.batches.invariant.next, above)) c.batches.invariant.sent c.in_ok-one.ensures.ok);
       step = omega (arith, c.batches.invariant.step, c.in_ok-one.ensures.step);
       later = omega (arith, c.batches.invariant.later, c.in_ok-one.ensures.cause.later);

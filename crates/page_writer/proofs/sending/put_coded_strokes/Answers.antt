@@ -5,12 +5,13 @@ use Rattle.page_writer.specs.Heads.{HeadPage}
 use Rattle.page_writer.specs.Pieces.{IsCoded, SendsStrokes}
 use Rattle.page_writer.specs.declared.coded.Coded.{Coded}
 use Rattle.page_writer.specs.declared.coded.Sent.{Sent}
-use Rattle.page_writer.proofs.Pieces.{each_set, part_more, sends_more, sent_fits}
+use Rattle.page_writer.proofs.Pieces.{each_set, part_join, sends_join, sent_fits}
 use Rattle.page_writer.proofs.sending.put_coded_strokes.Goals as goal
 
 pub returns-in_err-one-clause-part : goal.returns-in_err-one-clause-part
 returns-in_err-one-clause-part g c =
-    on_err_anyway _ (part_more 1 c.args.end (omega arith) (omega arith) c.strokes.invariant.sent c.in_err-one.ensures.part)
+    on_err_anyway _ (part_join c.strokes.stroke 1 (c.args.end - c.args.first) (omega arith) (omega arith)
+    c.strokes.invariant.sent c.in_err-one.ensures.part)
 
 pub returns-in_err-one-clause-room : goal.returns-in_err-one-clause-room
 returns-in_err-one-clause-room g c = each_set _ _ _ _ c.strokes.invariant.room c.in_err-one.ensures.room
@@ -26,7 +27,7 @@ strokes-preserved g c =
     record {
       sent = let P : Sent → Type 0 = SendsStrokes page c.args.last c.args.first (c.strokes.stroke + 1 - c.args.first)
           (g.K.Sink.held c.args.sink.now) (g.K.Sink.held c.put_coded.new.sink) in
-          subst P (sym c.and_then-sent.ensures) (sends_more (omega arith) (omega arith) c.strokes.invariant.sent c.in_ok-one.ensures.ok);
+          subst P (sym c.and_then-sent.ensures) (sends_join (omega arith) (omega arith) c.strokes.invariant.sent c.in_ok-one.ensures.ok);
       coded = λ k d low high.
           let other : k ≡ c.strokes.stroke - c.args.first → ⊥ = omega arith in
           let P : Coded → Type 0 = IsCoded page (c.args.first + k) in

@@ -3,8 +3,7 @@ use Rattle.page_definitions.specs.Strokes.{Strokes}
 use Rattle.printer_definitions.specs.Printer.{Printer, row_units}
 use Rattle.weave_base.proofs.Parting.{on_err_anyway}
 use Rattle.page_writer.specs.Heads.{strokes_over}
-use Rattle.page_writer.proofs.Inks.{pass_short}
-use Rattle.page_writer.proofs.InTurn.{strokes_fit}
+use Rattle.page_writer.proofs.Inks.{pass_short, strokes_fit}
 use Rattle.page_writer.proofs.Whole.{all_appended, appends_alone, first_part, last_part, middle_part}
 use Rattle.page_writer.proofs.Whole.{page_is, page_sums, part_alone}
 use Rattle.page_writer.proofs.strokes.put_page.Goals as goal
@@ -30,7 +29,7 @@ returns-in_err-put_all-2-clause-part g c =
     c.sheet_of.ensures.length c.sheet_of.ensures.top c.above.ensures c.sheet_of.ensures.bottom c.requires.rows in
     let begun = appends_alone _ _ _ c.deref.ensures.value c.requires.empty c.append_prologue.ensures.items
     c.in_ok-put_all.ensures.ok in
-    on_err_anyway _ (last_part _ _ _ whole begun c.in_ok-strokes.ensures.ok
+    on_err_anyway _ (last_part _ _ _ whole begun c.in_ok-strokes.ensures.ok.appends
     (part_alone c.deref-2.ensures.value c.clear.ensures.items c.append_end.ensures.items c.in_err-put_all-2.ensures.part))
 
 pub returns-clause-ok : goal.returns-clause-ok
@@ -40,7 +39,7 @@ returns-clause-ok g c =
     let begun = appends_alone _ _ _ c.deref.ensures.value c.requires.empty c.append_prologue.ensures.items
     c.in_ok-put_all.ensures.ok in
     let held = g.K.Sink.held in
-    all_appended (held c.args.sink.now) (held c.put_all.new.k) (held c.put_by_all.new.sink) (held c.put_all-2.new.k) _ _ _ whole begun c.in_ok-strokes.ensures.ok
+    all_appended (held c.args.sink.now) (held c.put_all.new.k) (held c.put_by_all.new.sink) (held c.put_all-2.new.k) _ _ _ whole begun c.in_ok-strokes.ensures.ok.appends
     (appends_alone _ _ _ c.deref-2.ensures.value c.clear.ensures.items c.append_end.ensures.items c.in_ok-put_all-2.ensures.ok)
 
 pub returns-clause-sum : goal.returns-clause-sum
@@ -50,10 +49,10 @@ returns-clause-sum g c =
     let whole = page_is p (g.H.Head.strokes c.args.page.now.head.now) c.args.page.now.planes.now
     c.sheet_of.ensures.length c.sheet_of.ensures.top c.above.ensures c.sheet_of.ensures.bottom c.requires.rows in
     page_sums p c.args.page.now.planes.now.width c.args.page.now.planes.now.rows (c.args.form.height * row_units p) strokes _ _ _ _ _
-    whole c.in_ok-strokes.ensures.bytes refl c.in_ok-strokes.ensures.rasters
+    whole c.in_ok-strokes.ensures.ok.bytes_are refl c.in_ok-strokes.ensures.ok.rasters_are
 
 pub overflow_add-result : goal.overflow_add-result
 overflow_add-result g c =
-    let fit = strokes_fit _ (g.H.Head.strokes c.args.page.now.head.now).count _ c.in_ok-strokes.ensures.most c.requires.suits.few
+    let fit = strokes_fit _ (g.H.Head.strokes c.args.page.now.head.now).count _ c.in_ok-strokes.ensures.ok.short c.requires.suits.few
     (pass_short c.args.page.now.profile.now c.args.page.now.planes.now.width c.requires.suits.can c.requires.suits.over.columns) in
     omega (arith, fit)
