@@ -1,4 +1,5 @@
 -- Proofs for a whole run.
+pub mod Fitting
 pub mod Statuses
 pub mod Asked
 pub mod Nothing

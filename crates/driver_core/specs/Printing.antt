@@ -1,4 +1,5 @@
 -- The command `print`.
+pub mod Setup
 pub mod Pages
 pub mod Outcome
 pub mod One

@@ -1,6 +1,5 @@
-//! Whether a head can go over its pages as a job asks.
-ghost use Rattle.dead_nozzles.specs.Dead.{IsRising};
-ghost use Rattle.driver_core.specs.Runs.Fitting.{RefusesWay, way_of};
+//! The way of a job over its pages, and whether a head can go it.
+ghost use Rattle.driver_core.specs.Runs.Fitting.{IsRisingWay, RefusesWay, way_of};
 ghost use Rattle.job_profile.specs.declared.stops.ProfileCause.TheVariants as cause;
 ghost use Rattle.page_definitions.specs.Ways.{CanGo};
 ghost use Rattle.printer_profile.specs.Validity.{check};
@@ -13,6 +12,7 @@ use base_definitions::greatest_common_divisor;
 use dead_nozzles::check_dead;
 use job_profile::ProfileCause;
 use job_words::Job;
+use page_definitions::Way;
 use printer_profile::Profile;
 use shingle_plan::shingle_fits;
 
@@ -32,23 +32,35 @@ fn check_shingles(nozzles: u8, pitch: u8) -> Result<(), ProfileCause>
     })
 }
 
-/// Whether the head of a profile can go over a page as the job asks: it can shingle where shingled passes are asked
-/// for, and its dead nozzles are nozzles of it and not all of them.
-pub fn check_way(job: &Job, profile: &Profile) -> Result<(), ProfileCause>
+/// The way that a job asks for: in shingled passes, around its dead nozzles if it names some, else in interleaved
+/// passes.
+pub fn job_way(job: &Job) -> Way
+    ensures { result ≡ way_of job.now }
+{
+    if job.shingle {
+        Way::Shingled
+    } else if job.dead.is_empty() {
+        Way::Woven
+    } else {
+        Way::around(&job.dead)
+    }
+}
+
+/// Whether the head of a profile can go over a page this way: it can shingle if shingled passes are asked for, and its
+/// dead nozzles are nozzles of it and not all of them.
+pub fn check_way(way: &Way, profile: &Profile) -> Result<(), ProfileCause>
     requires checked { IsOk (check profile.now) }
-    requires rising { IsRising job.now.dead.items }
-    ensures ok { OnOk result (CanGo (way_of job.now) profile.now) }
-    ensures err { IfErr result (RefusesWay (way_of job.now) profile.now) }
+    requires rising { IsRisingWay way.now }
+    ensures ok { OnOk result (CanGo way.now profile.now) }
+    ensures err { IfErr result (RefusesWay way.now profile.now) }
 {
     prove!(profile.nozzles <= 255);
-    if job.shingle {
-        return check_shingles(profile.nozzles, profile.pitch);
-    }
-    if job.dead.is_empty() {
-        return Ok(());
-    }
-    match check_dead(profile.nozzles, &job.dead) {
-        Ok(()) => Ok(()),
-        Err(fault) => Err(ProfileCause::Dead(fault)),
+    match way {
+        Way::Woven => Ok(()),
+        Way::Shingled => check_shingles(profile.nozzles, profile.pitch),
+        Way::Healed(dead) => match check_dead(profile.nozzles, dead) {
+            Ok(()) => Ok(()),
+            Err(fault) => Err(ProfileCause::Dead(fault)),
+        },
     }
 }

@@ -8,8 +8,8 @@
 //!
 //! A run prepares a command and performs it: `prepare` reads the words, sets the caps, finds the profile, and checks
 //! that its head can go over pages as the words ask; `perform` does the command over input, output and meters.
-//! `print_one` prints one stream by a checked profile; it is what `perform` calls for `print`, and what a spool calls
-//! for each of its jobs.
+//! `print_stream` prints one stream as a `PrintSetup` says, by a checked profile. A spool calls it for each of its
+//! jobs. `print_one` does so as a job asks, and `perform` calls it for `print`.
 //!
 //! Each command has a module, and its outcome, promises and proofs stand together: `print` in `Printing`, `dots` in
 //! `Playing`, `list` in `Listing`, `profile` in `Showing`, `trial` in `Trying`, and what they have in common in `Runs`.
@@ -35,7 +35,7 @@ mod trial;
 
 pub use driver_answer::{Answer, ProfileCause, UsageCause, UsageFault};
 pub use page_halftoner::Halftoner;
-pub use print::{Printed, print_one};
+pub use print::{PrintSetup, Printed, print_one, print_stream};
 pub use running::{run, tell};
 pub use tile_shape::Place;
 pub use worker_team::{Gate, OpenGate};

@@ -11,7 +11,7 @@ ghost use Rattle.printer_profile.specs.Validity.{check};
 ghost use Rattle.std.specs.Io.KnownBytes.{Keeps};
 ghost use Rattle.std.specs.Prelude.{IfErr, IfOk, IsErr, IsOk, IsSome, Ok, map, ◌≡◌};
 
-use crate::fitting::check_way;
+use crate::fitting::{check_way, job_way};
 use crate::print::set_caps;
 use driver_answer::Answer;
 use ink_meter::Meter;
@@ -47,7 +47,7 @@ fn profile_of<F: Shelf>(
     ensures unasked { IsSome (built_in (profile_named words.now)) → (shelf.new ≡ shelf.old) }
 {
     let profile = find_profile(alloc, shelf, profile_name(words, job))?;
-    match check_way(job, &profile) {
+    match check_way(&job_way(job), &profile) {
         Ok(()) => Ok(profile),
         Err(cause) => Err(Answer::Profile { line: 0, cause }),
     }
@@ -78,7 +78,7 @@ pub fn prepare<F: Shelf>(
     ensures refused_unasked { IsErr (job_meaning words.now) → (shelf.new ≡ shelf.old) }
 {
     let job = read_words(words)?;
-    set_caps(&job, meters);
+    set_caps(job.cap, meters);
     match job.verb {
         Verb::List => Ok(Prepared::List { job }),
         Verb::Print => {

@@ -5,9 +5,9 @@ mod counting;
 mod ink_count;
 mod one;
 mod pages;
-mod writing;
+mod setup;
 
 pub use charging::set_caps;
-pub use one::{Printed, print_one};
+pub use one::{Printed, print_one, print_stream};
 pub use pages::{print_pages, stream_answer};
-pub use writing::write_by_way;
+pub use setup::{PrintSetup, job_setup};

@@ -9,8 +9,8 @@ use Rattle.driver_answer.specs.declared.answer.Answer.{Answer}
 use Rattle.driver_answer.specs.declared.answer.Answer.TheVariants as answer
 use Rattle.driver_core.specs.Outside.{IsCalm, Outside}
 use Rattle.driver_core.specs.Printing.Outcome.{PrintedOutcome}
-use Rattle.page_definitions.specs.Ways.{Way}
-use Rattle.page_definitions.specs.Ways.Way.{Woven}
+use Rattle.page_definitions.specs.declared.way.Way.{Way}
+use Rattle.page_definitions.specs.declared.way.Way.TheVariants.{Woven}
 use Rattle.printer_definitions.specs.Printer.{Printer}
 use Rattle.spool_queue.specs.Jobs.{Stream}
 use Rattle.spool_queue.specs.declared.job.SpoolJob.{SpoolJob}

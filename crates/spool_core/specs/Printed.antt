@@ -6,7 +6,7 @@ use Rattle.driver_answer.specs.declared.answer.Answer.{Answer}
 use Rattle.driver_core.specs.Outside.{IsCalm, Meters, Outside}
 use Rattle.driver_core.specs.Printing.Outcome.{PrintedOutcome}
 use Rattle.ink_meter.specs.Accounts.{Account}
-use Rattle.page_definitions.specs.Ways.Way.{Woven}
+use Rattle.page_definitions.specs.declared.way.Way.TheVariants.{Woven}
 use Rattle.printer_definitions.specs.Printer.{Printer}
 use Rattle.spool_queue.specs.Jobs.{AreSent, Stream, sent_by}
 use Rattle.spool_queue.specs.declared.job.SpoolJob.{SpoolJob}

@@ -7,7 +7,7 @@
 //! has room for all pages of all files (`roomy`). The shelf is unchanged where a word is refused (`refused_unasked`).
 //!
 //! On 1 to 4, and on 7 where no job ran, nothing was written and no meter counted (`PrintsNone`). Each job that ran has
-//! the outcome that `driver_core::print_one` promises, from where the job before it left the output and the meters
+//! the outcome that `driver_core::print_stream` promises, from where the job before it left the output and the meters
 //! (`PrintsJobs`). Of each sender these are its first files, in order and numbered from 1 (`PrintsFirst`); on 0 and 9,
 //! and on 7 where a job ran, they are all of them (`PrintsEvery`). On 5 the last job that ran is the one whose write
 //! failed (`StopsAtWrite`).

@@ -11,35 +11,32 @@ use crate::answer::SpoolAnswer;
 use crate::report::Ran;
 use crate::source::StreamSource;
 use driver_answer::Answer;
-use driver_core::{Gate, Printed, print_one};
+use driver_core::{Gate, PrintSetup, Printed, print_stream};
 use ink_meter::Meter;
-use job_words::Job;
-use printer_profile::Profile;
 use spool_queue::{PrintPass, Spool, SpoolJob, StreamBytes};
 use std::alloc::Global;
 use std::sync::Wait;
 use std::thread::Threads;
 use weave_base::Sink;
 
-// Prints one stream.
-fn print_stream<R: Threads + Sync, K: Sink, G: Gate + Sync>(
+// Prints one stream from memory.
+fn print_bytes<R: Threads + Sync, K: Sink, G: Gate + Sync>(
     rt: &R,
     alloc: Global,
-    job: &Job,
-    profile: &Profile,
+    how: &PrintSetup,
     stream: StreamBytes,
     out: &mut K,
     gate: &G,
     meters: &mut Vec<Box<dyn Meter>>,
 ) -> Printed
-    requires { CanPrintWoven job.now profile.now }
-    ensures prints { PrintsStream profile.now (table_of job.now.kernel) stream result.pages result.answer
+    requires { CanPrintWoven how.now }
+    ensures prints { PrintsStream how.now.profile (table_of how.now.kernel) stream result.pages result.answer
         (between (K.held out.old) (K.faults out.old) (map (λ meter. account meter) meters.old.items))
         (between (K.held out.new) (K.faults out.new) (map (λ meter. account meter) meters.new.items)) }
     ensures later { K.faults out.old ≤ K.faults out.new }
 {
     let mut input = StreamSource::make(stream);
-    print_one(rt, alloc, job, profile, &mut input, out, gate, meters)
+    print_stream(rt, alloc, how, &mut input, out, gate, meters)
 }
 
 /// Takes and prints so many jobs, and notes in `done` what was done of each. A job whose write fails is the last: `Err`
@@ -47,8 +44,7 @@ fn print_stream<R: Threads + Sync, K: Sink, G: Gate + Sync>(
 pub fn print_jobs<R: Threads + Wait + Sync, K: Sink, G: Gate + Sync>(
     rt: &R,
     alloc: Global,
-    job: &Job,
-    profile: &Profile,
+    how: &PrintSetup,
     spool: &Spool,
     printer: &mut PrintPass,
     count: u32,
@@ -57,7 +53,7 @@ pub fn print_jobs<R: Threads + Wait + Sync, K: Sink, G: Gate + Sync>(
     meters: &mut Vec<Box<dyn Meter>>,
     done: &mut Vec<Ran>,
 ) -> Result<(), SpoolAnswer>
-    requires can { CanPrintWoven job.now profile.now }
+    requires can { CanPrintWoven how.now }
     requires pass { IsPrinterOf spool.now printer.old }
     requires none_taken { taken_of printer.old ≡ [] }
     requires count { count < 2 ^ 31 }
@@ -65,7 +61,7 @@ pub fn print_jobs<R: Threads + Wait + Sync, K: Sink, G: Gate + Sync>(
     requires room { count ≤ vec_capacity done.old }
     ensures pass { IsPrinterOf spool.now printer.new }
     ensures senders { senders_of printer.new ≡ senders_of printer.old }
-    ensures prints { AreDone profile.now (table_of job.now.kernel) (taken_of printer.new) done.new.items
+    ensures prints { AreDone how.now.profile (table_of how.now.kernel) (taken_of printer.new) done.new.items
         (between (K.held out.old) (K.faults out.old) (map (λ meter. account meter) meters.old.items))
         (between (K.held out.new) (K.faults out.new) (map (λ meter. account meter) meters.new.items)) }
     ensures every { OnOk result (length (taken_of printer.new) ≡ count) }
@@ -79,7 +75,7 @@ pub fn print_jobs<R: Threads + Wait + Sync, K: Sink, G: Gate + Sync>(
             number,
             stream,
         } = spool.take(rt, printer);
-        let printed = print_stream(rt, alloc, job, profile, stream, out, gate, meters);
+        let printed = print_bytes(rt, alloc, how, stream, out, gate, meters);
         done.push_reserved(Ran {
             sender,
             number,

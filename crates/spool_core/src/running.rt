@@ -15,10 +15,8 @@ use crate::preparing::{PreparedSpool, prepare};
 use crate::printing::{answer_for, print_jobs};
 use crate::report::{Ran, SpoolReport, tell};
 use crate::senders::send_all;
-use driver_core::Gate;
+use driver_core::{Gate, PrintSetup};
 use ink_meter::Meter;
-use job_words::Job;
-use printer_profile::Profile;
 use std::alloc::Global;
 use std::sync::Wait;
 use std::thread::Threads;
@@ -35,16 +33,15 @@ struct Finished {
 fn run_desk<R: Threads + Wait + Sync, K: Sink, G: Gate + Sync>(
     rt: &R,
     alloc: Global,
-    job: &Job,
-    profile: &Profile,
+    how: &PrintSetup,
     desk: Desk,
     out: &mut K,
     gate: &G,
     meters: &mut Vec<Box<dyn Meter>>,
 ) -> Finished
-    requires can { CanPrintWoven job.now profile.now }
+    requires can { CanPrintWoven how.now }
     requires desk { IsDesk (lists_in desk.works.items) desk }
-    ensures { PrintingOutcome profile.now (table_of job.now.kernel) (lists_in desk.works.items)
+    ensures { PrintingOutcome how.now.profile (table_of how.now.kernel) (lists_in desk.works.items)
         (outside_of K.held K.faults out.old out.new)
         (meters_of (λ meter. account meter) meters.old.items meters.new.items) result.done.items result.answer }
 {
@@ -60,8 +57,7 @@ fn run_desk<R: Threads + Wait + Sync, K: Sink, G: Gate + Sync>(
     let printed = print_jobs(
         rt,
         alloc,
-        job,
-        profile,
+        how,
         &spool,
         &mut printer,
         count,
@@ -84,19 +80,15 @@ fn perform<R: Threads + Wait + Sync, K: Sink, G: Gate + Sync>(
     gate: &G,
     meters: &mut Vec<Box<dyn Meter>>,
 ) -> Finished
-    requires can { CanPrintWoven prepared.job prepared.profile }
+    requires can { CanPrintWoven prepared.how }
     requires few { AreFew (sent_in prepared) }
-    ensures { PrintingOutcome prepared.profile (table_of prepared.job.kernel) (sent_in prepared)
+    ensures { PrintingOutcome prepared.how.profile (table_of prepared.how.kernel) (sent_in prepared)
         (outside_of K.held K.faults out.old out.new)
         (meters_of (λ meter. account meter) meters.old.items meters.new.items) result.done.items result.answer }
 {
-    let PreparedSpool {
-        job,
-        profile,
-        lists,
-    } = prepared;
+    let PreparedSpool { how, lists } = prepared;
     match Desk::make(alloc, lists) {
-        Ok(desk) => run_desk(rt, alloc, &job, &profile, desk, out, gate, meters),
+        Ok(desk) => run_desk(rt, alloc, &how, desk, out, gate, meters),
         Err(_) => Finished {
             answer: SpoolAnswer::Memory,
             done: Vec::new(alloc),

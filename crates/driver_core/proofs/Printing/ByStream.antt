@@ -12,7 +12,7 @@ use Rattle.ink_meter.specs.declared.meters.OverCap.{OverCap}
 use Rattle.ink_meter.proofs.Pages.{admitted-next}
 use Rattle.ink_meter.specs.Counts.{Admitted, page_dots}
 use Rattle.printer_definitions.specs.declared.inks.InkCounts.{InkCounts}
-use Rattle.page_definitions.specs.Ways.{Way}
+use Rattle.page_definitions.specs.declared.way.Way.{Way}
 use Rattle.printer_definitions.specs.Printer.{Printer}
 use Rattle.pwg_definitions.specs.Stream.StreamEnd.{Done, Fault}
 use Rattle.pwg_definitions.specs.Stream.{Page, Stream, StreamEnd, stream}

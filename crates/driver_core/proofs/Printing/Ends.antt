@@ -11,7 +11,8 @@ use Rattle.dot_planes.specs.Tables.{DotTable}
 use Rattle.ink_meter.specs.Accounts.{Account, IsFirstOver, all_inks}
 use Rattle.ink_meter.specs.declared.meters.OverCap.{OverCap}
 use Rattle.page_definitions.specs.Dots.{halftone}
-use Rattle.page_definitions.specs.Ways.{CanGo, Way, halftone_bytes_by, most_rasters, page_bytes_by}
+use Rattle.page_definitions.specs.Ways.{CanGo, halftone_bytes_by, most_rasters, page_bytes_by}
+use Rattle.page_definitions.specs.declared.way.Way.{Way}
 use Rattle.page_laws.proofs.WaysKept.{ways-keep, ways-print}
 use Rattle.page_writer.specs.AtMost.{AppendsAtMost}
 use Rattle.ink_meter.specs.Counts.{page_dots}

@@ -9,7 +9,7 @@ use Rattle.driver_answer.specs.declared.answer.Answer.{Answer}
 use Rattle.job_words.specs.declared.reading.Job.{Job}
 use Rattle.job_words.specs.declared.table.Verb.TheVariants as verb
 use Rattle.job_words.specs.declared.table.Verb.{Verb}
-use Rattle.page_definitions.specs.Ways.{Way}
+use Rattle.page_definitions.specs.declared.way.Way.{Way}
 use Rattle.printer_definitions.specs.Printer.{Printer}
 use Rattle.pwg_definitions.specs.Stream.{stream}
 use Rattle.driver_core.specs.Outside.{Meters, Outside, Outsides}

@@ -6,7 +6,8 @@ use Rattle.std.proofs.KnownBytes.{Appends-nil, Appends-trans, Consumes-trans}
 use Rattle.diffusion_definitions.specs.Diffusion.{Table}
 use Rattle.dot_planes.specs.Tables.{DotTable, dot}
 use Rattle.page_definitions.specs.Dots.{Halftone, HasDots}
-use Rattle.page_definitions.specs.Ways.{Way, page_bytes_by}
+use Rattle.page_definitions.specs.Ways.{page_bytes_by}
+use Rattle.page_definitions.specs.declared.way.Way.{Way}
 use Rattle.printer_definitions.specs.Printer.{Printer}
 use Rattle.printer_definitions.specs.declared.inks.InkCounts.{InkCounts}
 use Rattle.separation_definitions.specs.Windows.{wanted_by}

@@ -5,7 +5,7 @@ use Rattle.std.proofs.KnownBytes.{Appends-nil, Consumes-kept, Consumes-nil}
 use Rattle.diffusion_definitions.specs.Diffusion.{Table}
 use Rattle.escp2_definitions.specs.Commands.{commands_from}
 use Rattle.escp2_definitions.specs.Machine.{execute_from}
-use Rattle.page_definitions.specs.Ways.{Way}
+use Rattle.page_definitions.specs.declared.way.Way.{Way}
 use Rattle.printer_definitions.specs.Printer.{Printer}
 use Rattle.driver_core.specs.Printing.Outcome.{WritesJob}
 

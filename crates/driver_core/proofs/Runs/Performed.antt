@@ -17,12 +17,13 @@ use Rattle.driver_core.specs.declared.preparing.Prepared.{Prepared}
 use Rattle.driver_core.specs.declared.preparing.Prepared.TheVariants as prepared
 use Rattle.driver_core.specs.Caps.{with_cap}
 use Rattle.driver_core.specs.Outside.{Outsides}
+use Rattle.driver_core.specs.Printing.Setup.{CanBePrinted, setup_of}
 use Rattle.driver_core.specs.Runs.Fitting.{way_of}
 use Rattle.driver_core.specs.Runs.Outcome.{LineOutcome, Outcome, VerbOutcome}
-use Rattle.driver_core.specs.Runs.Prepared.{AsksWithProfile, CanBePrinted, DoneOutcome, IsPrepared, IsReady, job_in}
+use Rattle.driver_core.specs.Runs.Prepared.{AsksWithProfile, DoneOutcome, IsPrepared, IsReady, job_in}
 
 can_be_printed : (words : List (List ℕ)) (job : Job) (p : Printer) → job_meaning words ≡ Ok job → IsOk (check p)
-    → CanGo (way_of job) p → CanBePrinted job p
+    → CanGo (way_of job) p → CanBePrinted (setup_of job p)
 can_be_printed words job p means checked way =
     let bounds = within_bounds words job means in
     record { checked = checked; some_workers = bounds.some_workers; most_workers = bounds.most_workers; way = way }

@@ -29,6 +29,7 @@ use Rattle.pwg_laws.proofs.HeaderLaws.{check-wanted}
 use Rattle.pwg_laws.proofs.PageLaws.{stream-pages}
 use Rattle.separation_definitions.specs.CanPrint.{ArePages, CanPrint}
 use Rattle.separation_definitions.specs.Windows.{wanted_by}
+use Rattle.base_definitions.specs.Limits.{most_columns}
 use Rattle.driver_core.specs.declared.trial.summary.Totals.{Totals}
 use Rattle.driver_core.specs.Outside.{Outside}
 use Rattle.driver_core.specs.Runs.Fitting.{way_of}
@@ -44,7 +45,7 @@ pub data ReadsMade (job : Job) (p : Printer) : Type 0 where
       → stream_read job p ≡ record { pages = []; end = Fault 1 0 (cause.Header why) } → ReadsMade job p
 
 -- a line of a made page is short
-line-short : (kind : Kind) (width : ℕ) → width ≤ 8191 → line_bytes width (row_of kind).bits_per_pixel < 2 ^ 32
+line-short : (kind : Kind) (width : ℕ) → width ≤ most_columns → line_bytes width (row_of kind).bits_per_pixel < 2 ^ 32
 line-short kinds.Gray8 width narrow = omega arith
 line-short other width narrow = omega arith
 
@@ -115,7 +116,7 @@ made_refused job p page line found (Refuses why refused is) faulty =
     (why, refused, (let e : page ≡ 1 = cc in e), (let e : line ≡ 0 = cc in e), (let e : found ≡ cause.Header why = cc in e))
 
 -- a trial that stopped before it wrote anything
-pub trial_stopped : (job : Job) (p : Printer) (out : Outside) (a : Answer) → ReadsMade job p → StopsTrying job p a
+pub trial_stopped : (job : Job) (p : Printer) (out : Outside) (a : Answer) → ReadsMade job p → StopsTrying p (stream_made job p) a
     → Keeps out.before out.now → TrialOutcome job p out a
 trial_stopped job p out (answer.Input page line found) reads stops keeps = (made_refused job p page line found reads stops, keeps)
 trial_stopped job p out answer.Memory reads stops keeps = keeps
@@ -139,7 +140,7 @@ made_printed job p can go takes is =
 
 -- the line of a trial whose pages were read to the end is the summary of the made pages, which are printed
 pub trial_line : (job : Job) (p : Printer) (totals : Totals) → CanPrint p → CanGo (way_of job) p → ReadsMade job p
-    → TriesAll job p totals → PrintsMade job p × (totals_line totals ≡ job_summary job p)
+    → TriesAll (way_of job) p (table_of job.kernel) (stream_made job p) totals → PrintsMade job p × (totals_line totals ≡ job_summary job p)
 trial_line job p totals can go reads all =
     let taken = made_taken job p reads all.takes in (
       made_printed job p can go taken.0 taken.1,

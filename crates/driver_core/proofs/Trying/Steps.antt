@@ -9,7 +9,8 @@ use Rattle.ink_meter.proofs.Pages.{page_dots-is}
 use Rattle.job_player.specs.Counting.{IsBetweenPages, counts_of, sheets_of}
 use Rattle.job_player.specs.declared.counting.JobCounter.{JobCounter}
 use Rattle.page_definitions.specs.Dots.{dots_wanted, halftone}
-use Rattle.page_definitions.specs.Ways.{Way, page_bytes_by}
+use Rattle.page_definitions.specs.Ways.{page_bytes_by}
+use Rattle.page_definitions.specs.declared.way.Way.{Way}
 use Rattle.page_laws.proofs.Once.{wanted-once}
 use Rattle.page_writer.specs.declared.sums.PageSum.{PageSum}
 use Rattle.printer_definitions.specs.declared.inks.InkCounts.{InkCounts}
@@ -23,20 +24,17 @@ use Rattle.separation_definitions.specs.Windows.{wanted_by}
 use Rattle.driver_core.specs.declared.trial.pages.Written.{Written}
 use Rattle.driver_core.specs.declared.trial.summary.Totals.{Totals}
 use Rattle.driver_core.specs.Printing.Outcome.{stream_answer}
-use Rattle.driver_core.specs.Runs.Fitting.{way_of}
 use Rattle.driver_core.proofs.Printing.Ends.{stream_ends, stream_faults}
-use Rattle.diffusion_kernel.specs.Tables.{table_of}
 use Rattle.driver_answer.specs.declared.answer.Answer.{Answer}
 use Rattle.halftone_reader.specs.SoFar.{EndsSo}
-use Rattle.job_words.specs.declared.reading.Job.{Job}
 use Rattle.pwg_definitions.specs.Stream.StreamEnd.{Done, Fault}
 use Rattle.pwg_stream.specs.declared.stops.StreamStop.{StreamStop}
 use Rattle.pwg_stream.specs.declared.stops.StreamStop.TheVariants as stop
 use Rattle.pwg_stream.specs.Stops.{OnInput}
 use Rattle.weave_base.specs.Causes.{Rose}
 use Rattle.driver_core.specs.Printing.Pages.{job_bytes}
-use Rattle.driver_core.specs.Trying.Pages.{StopsTrying, TriesAll, TriesPage, stream_read}
-use Rattle.driver_core.specs.Trying.Summary.{dots_of_pages, rasters_of, rasters_of_pages, stream_made, totals_of}
+use Rattle.driver_core.specs.Trying.Pages.{StopsTrying, TriesAll, TriesPage}
+use Rattle.driver_core.specs.Trying.Summary.{dots_of_pages, rasters_of, rasters_of_pages, totals_of}
 use Rattle.driver_core.proofs.Printing.StreamSteps.{StreamSoFar, job-append, next_read, stream_begin, stream_written}
 use Rattle.driver_core.proofs.Trying.Sheets.{same-counts}
 
@@ -122,47 +120,42 @@ tried_page {way} {p} {k} {before} {left} {left'} {written} {old} now reader numb
 -- ---- where it ends
 
 -- the stream stops in its next page
-pub page_stops : (T : Type 0) {way : Way} {k : Table} {left : Option (List ℕ)} {reader : PageReader} {number : ℕ}
-    {written : Written} {counter : JobCounter} (job : Job) (p : Printer) (made : List ℕ) (why : StreamStop) (a : Answer) → made ≡ stream_made job p
+pub page_stops : (T : Type 0) {way : Way} {p : Printer} {k : Table} {made : List ℕ} {left : Option (List ℕ)} {reader : PageReader}
+    {number : ℕ} {written : Written} {counter : JobCounter} (why : StreamStop) (a : Answer)
     → TriedSoFar way p k (Some made) left reader number written counter
     → OnInput {T = T} (Err why) (EndsSo (wanted_by p) reader left)
-    → (IsErrOf {T = T} (Err why) stop.Read → Rose 0 0) → a ≡ stream_answer why → StopsTrying job p a
-page_stops T job p made (stop.Input page line cause) a is tried bad rose answered =
+    → (IsErrOf {T = T} (Err why) stop.Read → Rose 0 0) → a ≡ stream_answer why → StopsTrying p made a
+page_stops T {p = p} {made = made} (stop.Input page line cause) a tried bad rose answered =
     let told : stream (wanted_by p) made ≡ record { pages = tried.done; end = Fault page line cause } =
     stream_faults tried.so_far page line cause bad in
-    subst (StopsTrying job p) (sym answered)
-    (ap (λ bs. (stream (wanted_by p) bs).end) (sym is) ∙ ap (λ (s : Stream). s.end) told)
-page_stops T job p made stop.Read a is tried bad rose answered = absurd (omega (arith, (rose refl).rose))
-page_stops T job p made stop.Memory a is tried bad rose answered = subst (StopsTrying job p) (sym answered) tt
+    subst (StopsTrying p made) (sym answered) (ap (λ (s : Stream). s.end) told)
+page_stops T stop.Read a tried bad rose answered = absurd (omega (arith, (rose refl).rose))
+page_stops T {p = p} {made = made} stop.Memory a tried bad rose answered = subst (StopsTrying p made) (sym answered) tt
 
 -- the stream ended
-pub all_tried : {left : Option (List ℕ)} {reader : PageReader} {number : ℕ} {written : Written} {counter : JobCounter}
-    (job : Job) (p : Printer) (made : List ℕ) (totals : Totals) → made ≡ stream_made job p
-    → TriedSoFar (way_of job) p (table_of job.kernel) (Some made) left reader number written counter
-    → IsAtEnd (text_of reader left)
+pub all_tried : {way : Way} {p : Printer} {k : Table} {made : List ℕ} {left : Option (List ℕ)} {reader : PageReader} {number : ℕ}
+    {written : Written} {counter : JobCounter} (totals : Totals)
+    → TriedSoFar way p k (Some made) left reader number written counter → IsAtEnd (text_of reader left)
     → totals ≡ record {
       pages = number - 1;
       sheets = sheets_of counter;
       bytes = written.bytes;
       rasters = written.rasters;
       dots = counts_of counter;
-    } → TriesAll job p totals
-all_tried {number = number} {written = written} {counter = counter} job p made totals is tried end are =
+    } → TriesAll way p k made totals
+all_tried {way} {p} {k} {made} {number = number} {written = written} {counter = counter} totals tried end are =
     let told : stream (wanted_by p) made ≡ record { pages = tried.done; end = Done } = stream_ends tried.so_far end in
-    let whole : stream_read job p ≡ record { pages = tried.done; end = Done } = ap (stream (wanted_by p)) (sym is) ∙ told in
     let pages : number - 1 ≡ length tried.done = omega (arith, tried.so_far.next) in
     let same : (pages sheets bytes rasters : ℕ) (dots : InkCounts) → Totals = λ pages sheets bytes rasters dots.
     record { pages = pages; sheets = sheets; bytes = bytes; rasters = rasters; dots = dots } in
     record {
-      takes = ap (λ (s : Stream). s.end) whole;
+      takes = ap (λ (s : Stream). s.end) told;
       are = are
           ∙ ap (λ n. same n (sheets_of counter) written.bytes written.rasters (counts_of counter)) pages
           ∙ ap (λ n. same (length tried.done) n written.bytes written.rasters (counts_of counter)) tried.sheets
           ∙ ap (λ n. same (length tried.done) (length tried.done) n written.rasters (counts_of counter)) tried.bytes
-          ∙ ap (λ n. same (length tried.done) (length tried.done)
-          (length (job_bytes (way_of job) p (table_of job.kernel) tried.done)) n (counts_of counter)) tried.rasters
-          ∙ ap (λ (n : InkCounts). same (length tried.done) (length tried.done)
-          (length (job_bytes (way_of job) p (table_of job.kernel) tried.done))
-          (rasters_of_pages (way_of job) p (table_of job.kernel) tried.done) n) tried.counts
-          ∙ ap (λ (s : Stream). totals_of (way_of job) p (table_of job.kernel) s.pages) (sym whole);
+          ∙ ap (λ n. same (length tried.done) (length tried.done) (length (job_bytes way p k tried.done)) n (counts_of counter)) tried.rasters
+          ∙ ap (λ (n : InkCounts). same (length tried.done) (length tried.done) (length (job_bytes way p k tried.done))
+          (rasters_of_pages way p k tried.done) n) tried.counts
+          ∙ ap (λ (s : Stream). totals_of way p k s.pages) (sym told);
     }

@@ -6,7 +6,8 @@ use Rattle.driver_answer.specs.declared.answer.Answer.{Answer}
 use Rattle.driver_answer.specs.declared.answer.Answer.TheVariants as answer
 use Rattle.ink_meter.specs.Accounts.{IsFirstOver, all_inks}
 use Rattle.page_definitions.specs.Printing.{Prints}
-use Rattle.page_definitions.specs.Ways.{KeepTo, Way, most_rasters, page_bytes_by}
+use Rattle.page_definitions.specs.Ways.{KeepTo, most_rasters, page_bytes_by}
+use Rattle.page_definitions.specs.declared.way.Way.{Way}
 use Rattle.page_writer.specs.AtMost.{AppendsAtMost}
 use Rattle.ink_meter.specs.Counts.{Admitted, counted, page_dots}
 use Rattle.printer_definitions.specs.Printer.{Printer}

@@ -3,7 +3,8 @@ use Rattle.std.specs.Prelude.{◌≡◌, ℕ, List, ◌++◌, Option, IfSome}
 use Rattle.std.specs.List.{flat_map}
 use Rattle.std.specs.Io.KnownBytes.{Consumes, IsAtEnd}
 use Rattle.diffusion_definitions.specs.Diffusion.{Table}
-use Rattle.page_definitions.specs.Ways.{Way, page_bytes_by}
+use Rattle.page_definitions.specs.Ways.{page_bytes_by}
+use Rattle.page_definitions.specs.declared.way.Way.{Way}
 use Rattle.printer_definitions.specs.Printer.{Printer}
 use Rattle.separation_definitions.specs.Windows.{wanted_by}
 use Rattle.pwg_definitions.specs.Stream.{Page, StreamEnd, stream}

@@ -1,5 +1,5 @@
 -- Commands that can be done, and what doing them comes to.
-use Rattle.std.specs.Prelude.{◌≡◌, ℕ, ◌<◌, ◌≤◌, ◌^◌, List, Option, Ok, IsOk}
+use Rattle.std.specs.Prelude.{◌≡◌, ℕ, ◌<◌, ◌^◌, List, Option, Ok, IsOk}
 use Rattle.driver_answer.specs.declared.answer.Answer.{Answer}
 use Rattle.job_words.specs.declared.reading.Job.{Job}
 use Rattle.job_words.specs.declared.table.Verb.{Verb}
@@ -12,6 +12,7 @@ use Rattle.driver_core.specs.declared.preparing.Prepared.{Prepared}
 use Rattle.driver_core.specs.declared.preparing.Prepared.TheVariants as prepared
 use Rattle.driver_core.specs.Listing.Outcome.{ListOutcome}
 use Rattle.driver_core.specs.Outside.{Meters, Outside}
+use Rattle.driver_core.specs.Printing.Setup.{CanBePrinted, setup_of}
 use Rattle.driver_core.specs.Runs.Fitting.{IsProfileOf, way_of}
 use Rattle.driver_core.specs.Runs.Outcome.{VerbOutcome}
 use Rattle.job_words.specs.Jobs.{IsWithinBounds}
@@ -40,20 +41,13 @@ job_in (prepared.List job) = job
 job_in (prepared.Profile job p) = job
 job_in (prepared.Trial job p) = job
 
--- Pages can be printed as a job asks: by 1 to 64 workers, and by a head that can go its way.
-pub record CanBePrinted (job : Job) (p : Printer) : Type 0 where
-  pub checked : IsOk (check p)
-  pub some_workers : 1 ≤ job.workers
-  pub most_workers : job.workers ≤ 64
-  pub way : CanGo (way_of job) p
-
 -- what a command needs of its job and its profile
 abbrev pub IsReady : Prepared → Type 0
-IsReady (prepared.Print job p) = CanBePrinted job p
+IsReady (prepared.Print job p) = CanBePrinted (setup_of job p)
 IsReady (prepared.Dots job p) = IsOk (check p) × (job.most < 2 ^ 63)
 IsReady (prepared.List job) = job.most < 2 ^ 63
 IsReady (prepared.Profile job p) = Unit {0}
-IsReady (prepared.Trial job p) = CanBePrinted job p × IsWithinBounds job
+IsReady (prepared.Trial job p) = CanBePrinted (setup_of job p) × IsWithinBounds job
 
 -- The outcome of a prepared command.
 abbrev pub DoneOutcome : Prepared → Outside → Outside → Meters → Answer → Type 0

@@ -1,16 +1,16 @@
 -- What trying pages comes to, page by page.
-use Rattle.std.specs.Prelude.{◌≡◌, ℕ, ◌<◌, ◌^◌, length}
-use Rattle.diffusion_kernel.specs.Tables.{table_of}
+use Rattle.std.specs.Prelude.{◌≡◌, ℕ, List, ◌<◌, ◌^◌, length}
+use Rattle.diffusion_definitions.specs.Diffusion.{Table}
 use Rattle.driver_answer.specs.declared.answer.Answer.{Answer}
 use Rattle.driver_answer.specs.declared.answer.Answer.TheVariants as answer
 use Rattle.driver_core.specs.declared.trial.summary.Totals.{Totals}
-use Rattle.driver_core.specs.Runs.Fitting.{way_of}
 use Rattle.driver_core.specs.Trying.Summary.{rasters_of, stream_made, totals_of}
 use Rattle.job_player.specs.Counting.{CountsPage}
 use Rattle.job_player.specs.declared.counting.JobCounter.{JobCounter}
 use Rattle.job_words.specs.declared.reading.Job.{Job}
 use Rattle.page_definitions.specs.Dots.{Halftone, dots_wanted}
-use Rattle.page_definitions.specs.Ways.{Way, halftone_bytes_by}
+use Rattle.page_definitions.specs.Ways.{halftone_bytes_by}
+use Rattle.page_definitions.specs.declared.way.Way.{Way}
 use Rattle.page_writer.specs.declared.sums.PageSum.{PageSum}
 use Rattle.printer_definitions.specs.Printer.{Printer}
 use Rattle.pwg_definitions.specs.Stream.{Stream, stream}
@@ -32,19 +32,13 @@ pub record TriesPage (way : Way) (p : Printer) (h : Halftone) (len : ℕ) (old n
   pub sums : SumsBy way p h len sum
   pub counts : CountsPage p (dots_wanted p h) old new
 
--- The printer reads the made stream to its end, and this is what its pages come to.
-pub record TriesAll (job : Job) (p : Printer) (totals : Totals) : Type 0 where
-  pub takes : (stream_read job p).end ≡ Done
-  pub are : totals ≡ totals_of (way_of job) p (table_of job.kernel) (stream_read job p).pages
+-- The printer reads the made bytes to their end, and this is what their pages come to.
+pub record TriesAll (way : Way) (p : Printer) (k : Table) (made : List ℕ) (totals : Totals) : Type 0 where
+  pub takes : (stream (wanted_by p) made).end ≡ Done
+  pub are : totals ≡ totals_of way p k (stream (wanted_by p) made).pages
 
--- why trying pages stops
-abbrev pub StopsTrying : Job → Printer → Answer → Type 0
-StopsTrying job p (answer.Input page line cause) = (stream_read job p).end ≡ Fault page line cause
-StopsTrying job p answer.Memory = Unit {0}
-StopsTrying job p answer.Done = ⊥
-StopsTrying job p (answer.Write page) = ⊥
-StopsTrying job p answer.Read = ⊥
-StopsTrying job p (answer.Usage fault) = ⊥
-StopsTrying job p (answer.Profile line cause) = ⊥
-StopsTrying job p (answer.OverCap page total dots cap) = ⊥
-StopsTrying job p (answer.Job offset cause) = ⊥
+-- why trying the pages of made bytes stops
+abbrev pub StopsTrying : Printer → List ℕ → Answer → Type 0
+StopsTrying p made (answer.Input page line cause) = (stream (wanted_by p) made).end ≡ Fault page line cause
+StopsTrying p made answer.Memory = Unit {0}
+StopsTrying p made other = ⊥

@@ -9,7 +9,8 @@ use Rattle.escp2_definitions.specs.Rasters.{raster_count}
 use Rattle.job_words.specs.declared.reading.Job.{Job}
 use Rattle.ink_meter.specs.Accounts.{together}
 use Rattle.ink_meter.specs.Counts.{ink_dots, page_dots}
-use Rattle.page_definitions.specs.Ways.{Way, page_bytes_by}
+use Rattle.page_definitions.specs.Ways.{page_bytes_by}
+use Rattle.page_definitions.specs.declared.way.Way.{Way}
 use Rattle.driver_core.specs.declared.trial.summary.Totals.{Totals}
 use Rattle.page_maker.specs.Made.{made_form, made_stream}
 use Rattle.printer_definitions.specs.declared.inks.InkCounts.{InkCounts}

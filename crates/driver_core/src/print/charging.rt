@@ -7,14 +7,13 @@ ghost use Rattle.std.specs.Prelude.{All, IfErr, OnErr, OnOk, map, ◌<◌, ◌^�
 
 use driver_answer::Answer;
 use ink_meter::{InkCounts, Meter, OverCap, add_all, admit, cap_all};
-use job_words::Job;
 
-/// Sets the caps of the meters, where a word gives one, as only a job that prints does.
-pub fn set_caps(job: &Job, meters: &mut Vec<Box<dyn Meter>>)
+/// Sets the caps of the meters if a word gives one, as only a job that prints does.
+pub fn set_caps(cap: Option<u64>, meters: &mut Vec<Box<dyn Meter>>)
     ensures { map (λ meter. account meter) meters.new.items
-        ≡ with_cap job.now.cap (map (λ meter. account meter) meters.old.items) }
+        ≡ with_cap cap (map (λ meter. account meter) meters.old.items) }
 {
-    if let Some(cap) = job.cap {
+    if let Some(cap) = cap {
         cap_all(meters, cap);
     }
 }

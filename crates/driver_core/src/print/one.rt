@@ -2,14 +2,14 @@
 ghost use Rattle.diffusion_kernel.specs.Tables.{table_of};
 ghost use Rattle.driver_answer.specs.Answers.{status_of};
 ghost use Rattle.driver_core.specs.Outside.{meters_of, outside_of};
+ghost use Rattle.driver_core.specs.Printing.Setup.{CanBePrinted, setup_of};
 ghost use Rattle.driver_core.specs.Printing.One.{AnswersBy, IsCapped, IsFaulty, IsValid};
 ghost use Rattle.driver_core.specs.Printing.Outcome.{PrintedOutcome};
 ghost use Rattle.driver_core.specs.Runs.Fitting.{way_of};
-ghost use Rattle.driver_core.specs.Runs.Prepared.{CanBePrinted};
 ghost use Rattle.std.specs.Prelude.{◌≤◌};
 
 use crate::answers::answer_to;
-use crate::print::print_pages;
+use crate::print::{PrintSetup, job_setup, print_pages};
 use driver_answer::Answer;
 use ink_meter::Meter;
 use job_words::Job;
@@ -26,11 +26,56 @@ pub struct Printed {
     pub pages: u32,
 }
 
-/// Prints the pages of one stream (PWG Raster, PWG 5102.4) by a profile, as `run` does once its words and its profile
-/// are accepted: `job` says by which kernel, with how many workers, and in which way the head goes over a page; its
-/// other words are not looked at. A page is written once it is read to its last line and every meter has room for it.
+/// Prints the pages of one stream (PWG Raster, PWG 5102.4). A page is written once it is read to its last line and
+/// every meter has room for it.
 ///
 /// The answer is never `Usage`, `Profile` or `Job`. Where memory runs out it is `Memory`.
+pub fn print_stream<R: Threads + Sync, S: Source, K: Sink, G: Gate + Sync>(
+    threads: &R,
+    alloc: Global,
+    how: &PrintSetup,
+    input: &mut S,
+    out: &mut K,
+    gate: &G,
+    meters: &mut Vec<Box<dyn Meter>>,
+) -> Printed
+    requires can { CanBePrinted how.now }
+    ensures outcome { PrintedOutcome how.now.way how.now.profile (table_of how.now.kernel)
+        (outside_of S.left S.faults input.old input.new)
+        (outside_of K.held K.faults out.old out.new)
+        (meters_of (λ meter. account meter) meters.old.items meters.new.items) result.pages result.answer }
+    ensures later { K.faults out.old ≤ K.faults out.new }
+    // Where nothing outside fails, a valid stream is printed, a faulty one refused, and a page that goes past a cap
+    // too, unless memory runs out.
+    ensures valid { AnswersBy IsValid 0 how.now.profile (table_of how.now.kernel)
+        (outside_of S.left S.faults input.old input.new)
+        (outside_of K.held K.faults out.old out.new)
+        (meters_of (λ meter. account meter) meters.old.items meters.new.items) (status_of result.answer) }
+    ensures refused { AnswersBy IsFaulty 3 how.now.profile (table_of how.now.kernel)
+        (outside_of S.left S.faults input.old input.new)
+        (outside_of K.held K.faults out.old out.new)
+        (meters_of (λ meter. account meter) meters.old.items meters.new.items) (status_of result.answer) }
+    ensures capped { AnswersBy IsCapped 6 how.now.profile (table_of how.now.kernel)
+        (outside_of S.left S.faults input.old input.new)
+        (outside_of K.held K.faults out.old out.new)
+        (meters_of (λ meter. account meter) meters.old.items meters.new.items) (status_of result.answer) }
+{
+    let team = Team {
+        threads,
+        workers: how.workers,
+        gate,
+    };
+    let mut pages = 0;
+    let printed = print_pages(&team, alloc, how, input, out, meters, &mut pages);
+    Printed {
+        answer: answer_to(printed),
+        pages,
+    }
+}
+
+/// Prints the pages of one stream by a profile, as `run` does once its words and its profile are accepted: `job` says
+/// by which kernel, with how many workers, and in which way the head goes over a page; its other words are not looked
+/// at. See `print_stream`.
 pub fn print_one<R: Threads + Sync, S: Source, K: Sink, G: Gate + Sync>(
     threads: &R,
     alloc: Global,
@@ -41,7 +86,7 @@ pub fn print_one<R: Threads + Sync, S: Source, K: Sink, G: Gate + Sync>(
     gate: &G,
     meters: &mut Vec<Box<dyn Meter>>,
 ) -> Printed
-    requires { CanBePrinted job.now profile.now }
+    requires { CanBePrinted (setup_of job.now profile.now) }
     ensures outcome { PrintedOutcome (way_of job.now) profile.now (table_of job.now.kernel)
         (outside_of S.left S.faults input.old input.new)
         (outside_of K.held K.faults out.old out.new)
@@ -62,15 +107,6 @@ pub fn print_one<R: Threads + Sync, S: Source, K: Sink, G: Gate + Sync>(
         (outside_of K.held K.faults out.old out.new)
         (meters_of (λ meter. account meter) meters.old.items meters.new.items) (status_of result.answer) }
 {
-    let team = Team {
-        threads,
-        workers: job.workers,
-        gate,
-    };
-    let mut pages = 0;
-    let printed = print_pages(&team, alloc, profile, job, input, out, meters, &mut pages);
-    Printed {
-        answer: answer_to(printed),
-        pages,
-    }
+    let how = job_setup(job, profile);
+    print_stream(threads, alloc, &how, input, out, gate, meters)
 }

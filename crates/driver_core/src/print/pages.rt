@@ -1,22 +1,18 @@
 //! Printing the pages of a stream.
 ghost use Rattle.diffusion_kernel.specs.Tables.{table_of};
 ghost use Rattle.driver_core.specs.Outside.{meters_of, outside_of};
+ghost use Rattle.driver_core.specs.Printing.Setup.{CanBePrinted};
 ghost use Rattle.driver_core.specs.Printing.Outcome.{PrintedOutcome, stream_answer as stream_answer_of};
-ghost use Rattle.driver_core.specs.Runs.Fitting.{way_of};
 ghost use Rattle.driver_core.specs.Runs.Outcome.{answer_of};
-ghost use Rattle.page_definitions.specs.Ways.{CanGo};
-ghost use Rattle.printer_profile.specs.Validity.{check};
-ghost use Rattle.std.specs.Prelude.{IsOk, ◌≡◌, ◌≤◌};
+ghost use Rattle.std.specs.Prelude.{◌≡◌, ◌≤◌};
 
 use crate::print::charging::charge;
 use crate::print::counting::count_inks;
-use crate::print::writing::write_by_way;
+use crate::print::setup::PrintSetup;
 use driver_answer::Answer;
 use halftone_reader::read_page;
 use ink_meter::Meter;
-use job_words::Job;
-use page_writer::WriteStop;
-use printer_profile::Profile;
+use page_writer::{WriteStop, write_by_way};
 use pwg_stream::{MOST_PAGES, PageReader, StreamStop};
 use std::alloc::Global;
 use std::thread::Threads;
@@ -40,39 +36,45 @@ pub fn stream_answer(stop: StreamStop) -> Answer
 pub fn print_pages<R: Threads + Sync, S: Source, K: Sink, G: Gate + Sync>(
     team: &Team<'_, R, G>,
     alloc: Global,
-    profile: &Profile,
-    job: &Job,
+    how: &PrintSetup,
     input: &mut S,
     out: &mut K,
     meters: &mut Vec<Box<dyn Meter>>,
     pages: &mut u32,
 ) -> Result<(), Answer>
-    requires checked { IsOk (check profile.now) }
-    requires way { CanGo (way_of job.now) profile.now }
-    ensures outcome { PrintedOutcome (way_of job.now) profile.now (table_of job.now.kernel)
+    requires { CanBePrinted how.now }
+    ensures outcome { PrintedOutcome how.now.way how.now.profile (table_of how.now.kernel)
         (outside_of S.left S.faults input.old input.new)
         (outside_of K.held K.faults out.old out.new)
         (meters_of (λ meter. account meter) meters.old.items meters.new.items) pages.new (answer_of result) }
     ensures later { K.faults out.old ≤ K.faults out.new }
 {
-    prove!(profile.nozzles <= 255);
+    prove!(how.profile.nozzles <= 255);
     *pages = 0;
     let mut reader = match PageReader::begin(alloc, input) {
         Ok(reader) => reader,
         Err(stop) => return Err(stream_answer(stop)),
     };
     'pages: for number in 1..MOST_PAGES + 2 {
-        let page = match read_page(team, alloc, &mut reader, profile, job.kernel, input) {
+        let page = match read_page(team, alloc, &mut reader, &how.profile, how.kernel, input) {
             Ok(Some(page)) => page,
             Ok(None) => return Ok(()),
             Err(stop) => return Err(stream_answer(stop)),
         };
         charge(
             number,
-            &count_inks(team, profile.inks, &page.planes),
+            &count_inks(team, how.profile.inks, &page.planes),
             meters,
         )?;
-        match write_by_way(team, alloc, profile, job, page.form, &page.planes, out) {
+        match write_by_way(
+            team,
+            alloc,
+            &how.profile,
+            &how.way,
+            page.form,
+            &page.planes,
+            out,
+        ) {
             Err(WriteStop::Write) => return Err(Answer::Write { page: number }),
             Err(WriteStop::Memory) => return Err(Answer::Memory),
             Ok(_) => *pages = number,

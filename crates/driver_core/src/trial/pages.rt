@@ -1,25 +1,22 @@
 //! Printing and executing made pages.
+ghost use Rattle.diffusion_kernel.specs.Tables.{table_of};
 ghost use Rattle.driver_core.specs.Outside.{outside_of};
 ghost use Rattle.driver_core.specs.Runs.Outcome.{answer_of};
-ghost use Rattle.driver_core.specs.Runs.Prepared.{CanBePrinted};
+ghost use Rattle.driver_core.specs.Printing.Setup.{CanBePrinted, setup_of};
 ghost use Rattle.job_words.specs.Jobs.{IsWithinBounds};
 ghost use Rattle.driver_answer.specs.declared.answer.Answer.TheVariants as answer;
-ghost use Rattle.driver_core.specs.Runs.Fitting.{way_of};
 ghost use Rattle.driver_core.specs.Trying.Outcome.{TrialOutcome};
 ghost use Rattle.driver_core.specs.Trying.Pages.{StopsTrying, TriesAll, TriesPage};
-ghost use Rattle.driver_core.specs.Trying.Summary.{stream_made};
 ghost use Rattle.job_player.specs.Counting.{IsBetweenPages, counts_of, sheets_of};
 ghost use Rattle.page_definitions.specs.Dots.{Halftone};
-ghost use Rattle.page_definitions.specs.Ways.{CanGo};
 ghost use Rattle.page_writer.specs.Shows.{Shows};
 ghost use Rattle.printer_definitions.specs.Inks.{inks_of};
 ghost use Rattle.printer_definitions.specs.Printer.{row_units};
-ghost use Rattle.printer_profile.specs.Validity.{check};
 ghost use Rattle.pwg_definitions.specs.Header.{IsWanted};
 ghost use Rattle.separation_definitions.specs.Windows.{wanted_by, window_of};
-ghost use Rattle.std.specs.Prelude.{IfErr, IfOk, IsOk, length, ◌*◌, ◌<◌, ◌^◌, ◌≡◌};
+ghost use Rattle.std.specs.Prelude.{IfErr, IfOk, length, ◌*◌, ◌<◌, ◌^◌, ◌≡◌};
 
-use crate::print::{stream_answer, write_by_way};
+use crate::print::{PrintSetup, job_setup, stream_answer};
 use crate::trial::page_bytes::PageBytes;
 use crate::trial::summary::{Totals, write_summary};
 use driver_answer::Answer;
@@ -27,7 +24,7 @@ use halftone_reader::{HalftonedPage, read_page};
 use job_player::JobCounter;
 use job_words::Job;
 use page_maker::{PageMaker, made_form};
-use page_writer::PageSum;
+use page_writer::{PageSum, write_by_way};
 use printer_profile::{Profile, checked_can_print};
 use pwg_stream::{MOST_PAGES, PageReader};
 use std::alloc::Global;
@@ -46,27 +43,35 @@ struct Written {
 fn try_page<R: Threads + Sync, G>(
     team: &Team<'_, R, G>,
     alloc: Global,
-    profile: &Profile,
-    job: &Job,
+    how: &PrintSetup,
     page: &HalftonedPage,
     bytes: &mut PageBytes,
     counter: &mut JobCounter,
 ) -> Result<PageSum, Answer>
-    requires checked { IsOk (check profile.now) }
-    requires way { CanGo (way_of job.now) profile.now }
-    requires wanted { IsWanted (wanted_by profile.now) page.now.form }
-    requires width { page.now.planes.width ≡ (window_of page.now.form profile.now).width }
-    requires rows { page.now.planes.rows ≡ (window_of page.now.form profile.now).height }
-    requires inks { page.now.planes.inks ≡ length (inks_of profile.now.inks) }
-    requires shown { (h : Halftone) × Shows profile.now page.now.planes h }
-    requires between { IsBetweenPages profile.now counter.old }
+    requires printed { CanBePrinted how.now }
+    requires wanted { IsWanted (wanted_by how.now.profile) page.now.form }
+    requires width { page.now.planes.width ≡ (window_of page.now.form how.now.profile).width }
+    requires rows { page.now.planes.rows ≡ (window_of page.now.form how.now.profile).height }
+    requires inks { page.now.planes.inks ≡ length (inks_of how.now.profile.inks) }
+    requires shown { (h : Halftone) × Shows how.now.profile page.now.planes h }
+    requires between { IsBetweenPages how.now.profile counter.old }
     requires room { sheets_of counter.old < 2 ^ 16 }
-    ensures ok { (h : Halftone) → Shows profile.now page.now.planes h → IfOk result
-        (TriesPage (way_of job.now) profile.now h (page.now.form.height * row_units profile.now) counter.old counter.new) }
+    ensures ok { (h : Halftone) → Shows how.now.profile page.now.planes h → IfOk result
+        (TriesPage how.now.way how.now.profile h (page.now.form.height * row_units how.now.profile) counter.old counter.new) }
     ensures err { IfErr result (λ a. a ≡ answer.Memory) }
 {
+    checked_can_print(how.profile);
     bytes.clear();
-    let Ok(sum) = write_by_way(team, alloc, profile, job, page.form, &page.planes, bytes) else {
+    let written = write_by_way(
+        team,
+        alloc,
+        &how.profile,
+        &how.way,
+        page.form,
+        &page.planes,
+        bytes,
+    );
+    let Ok(sum) = written else {
         return Err(Answer::Memory);
     };
     match counter.execute_page(bytes.bytes()) {
@@ -98,20 +103,18 @@ fn totals(pages: u32, written: Written, counter: &JobCounter) -> Totals
 fn try_stream<R: Threads + Sync, G: Gate + Sync>(
     team: &Team<'_, R, G>,
     alloc: Global,
-    profile: &Profile,
-    job: &Job,
+    how: &PrintSetup,
     maker: &mut PageMaker,
     counter: &mut JobCounter,
 ) -> Result<Totals, Answer>
-    requires printed { CanBePrinted job.now profile.now }
-    requires made { maker.old ≡ stream_made job.now profile.now }
-    requires between { IsBetweenPages profile.now counter.old }
+    requires printed { CanBePrinted how.now }
+    requires between { IsBetweenPages how.now.profile counter.old }
     requires sheets { sheets_of counter.old ≡ 0 }
     requires counts { counts_of counter.old ≡ record { k = 0; c = 0; m = 0; y = 0 } }
-    ensures ok { IfOk result (TriesAll job.now profile.now) }
-    ensures err { IfErr result (StopsTrying job.now profile.now) }
+    ensures ok { IfOk result (TriesAll how.now.way how.now.profile (table_of how.now.kernel) maker.old) }
+    ensures err { IfErr result (StopsTrying how.now.profile maker.old) }
 {
-    prove!(profile.nozzles <= 255);
+    prove!(how.profile.nozzles <= 255);
     let mut reader = match PageReader::begin(alloc, maker) {
         Ok(reader) => reader,
         Err(stop) => return Err(stream_answer(stop)),
@@ -122,12 +125,12 @@ fn try_stream<R: Threads + Sync, G: Gate + Sync>(
         rasters: 0,
     };
     'pages: for number in 1..MOST_PAGES + 2 {
-        let page = match read_page(team, alloc, &mut reader, profile, job.kernel, maker) {
+        let page = match read_page(team, alloc, &mut reader, &how.profile, how.kernel, maker) {
             Ok(Some(page)) => page,
             Ok(None) => return Ok(totals(number - 1, written, counter)),
             Err(stop) => return Err(stream_answer(stop)),
         };
-        let sum = try_page(team, alloc, profile, job, &page, &mut bytes, counter)?;
+        let sum = try_page(team, alloc, how, &page, &mut bytes, counter)?;
         written.bytes += sum.bytes;
         written.rasters += u64::from(sum.rasters);
     }
@@ -143,7 +146,7 @@ pub fn try_pages<R: Threads + Sync, K: Sink, G: Gate + Sync>(
     job: &Job,
     out: &mut K,
 ) -> Result<(), Answer>
-    requires printed { CanBePrinted job.now profile.now }
+    requires printed { CanBePrinted (setup_of job.now profile.now) }
     requires made { IsWithinBounds job.now }
     ensures { TrialOutcome job.now profile.now
         (outside_of K.held K.faults out.old out.new) (answer_of result) }
@@ -155,7 +158,8 @@ pub fn try_pages<R: Threads + Sync, K: Sink, G: Gate + Sync>(
         return Err(Answer::Memory);
     };
     let mut counter = JobCounter::make(alloc, profile);
-    let totals = try_stream(team, alloc, profile, job, &mut maker, &mut counter)?;
+    let how = job_setup(job, profile);
+    let totals = try_stream(team, alloc, &how, &mut maker, &mut counter)?;
     match write_summary(&totals, out) {
         Ok(()) => Ok(()),
         Err(_) => Err(Answer::Write { page: 0 }),

@@ -2,7 +2,6 @@ use Rattle.std.proofs.Common.{[], Ok, List, ℕ, Option, arith, refl, sym, subst
 use Rattle.std.proofs.lemmas.Result.{err_from_is_err_and}
 use Rattle.driver_core.specs.Outside.{texts_of}
 use Rattle.job_profile.specs.Named.{IsJobProfile}
-use Rattle.page_definitions.specs.Ways.{CanGo, Way}
 use Rattle.spool_words.specs.Meaning.{names_of}
 use Rattle.spool_words.proofs.Accepted.{within_bounds}
 use Rattle.weave_base.specs.Shelf.{NamedText}
@@ -38,14 +37,13 @@ returns-clause-prepared g c =
     let within = within_bounds c.args.words.now c.in_ok-request.request (sym c.in_ok-request.ensures) in
     let some = within.some_workers in
     let most = within.most_workers in
-    let workers = c.job_of.ensures.workers in
     let files : AreFiles told (names_of c.args.words.now) (map (λ list. list.items) c.in_ok-lists.lists.items) =
     subst (λ (t : Option (List NamedText)). AreFiles t (names_of c.args.words.now) (map (λ list. list.items) c.in_ok-lists.lists.items)) c.find_profile.ensures.stay c.in_ok-lists.ensures.ok in
     record {
       request = c.in_ok-request.request;
       means = sym c.in_ok-request.ensures;
-      kernel_is = c.job_of.ensures.kernel;
-      workers_is = workers;
+      kernel_is = refl;
+      workers_is = refl;
       profile_is = subst (λ (name : List ℕ). IsJobProfile told name (Ok c.in_ok-profile.profile)) c.profile_name.ensures c.in_ok-profile.ensures.found;
       files = files;
       can = record {
@@ -53,9 +51,9 @@ returns-clause-prepared g c =
           checked = c.in_ok-profile.ensures.checked;
           some_workers = omega arith;
           most_workers = omega arith;
-          way = subst (λ (way : Way). CanGo way c.in_ok-profile.profile) (sym c.job_of.ensures.way) tt;
+          way = tt;
         };
-        way_is = c.job_of.ensures.way;
+        way_is = refl;
       };
       few = are_few c.args.words.now (map (λ list. list.items) c.in_ok-lists.lists.items) c.in_ok-request.request files.senders within;
     }

@@ -28,7 +28,7 @@ returns g c =
     let was = c.send_all-ended.ensures.sent.sent in
     let S : List (List Stream) → Type 0 = λ ls. (rest : List SpoolJob) × AreSent (sent_by ls) (taken ++ rest) in
     let T : List (List Stream) → Type 0 = λ ls. length taken ≡ count_sent ls → AreSent (sent_by ls) taken in
-    came_to c.print_jobs-printed.result c.args.profile.now (table_of c.args.job.now.kernel) sent taken
+    came_to c.print_jobs-printed.result c.args.how.now.profile (table_of c.args.how.now.kernel) sent taken
     (outside_of g.K.Sink.held g.K.Sink.faults c.args.out.now c.print_jobs-printed.new.out)
     (meters_of (λ m. (goal.Meter-dyn g (m.vtable, m.value)).account m.value) c.args.meters.now.items c.print_jobs-printed.new.meters.items)
     c.print_jobs-printed.new.done.items c.answer_for-answer.result c.args.desk.count

@@ -15,7 +15,7 @@ returns-in-Ok-clause-outcome g c =
       out = outside_of g.K.Sink.held g.K.Sink.faults c.args.out.now c.perform.new.out;
       meters = meters_of (λ m. (goal.Meter-dyn g (m.vtable, m.value)).account m.value) c.args.meters.now.items c.perform.new.meters.items;
     })
-    c.perform.result.done.items c.in-Ok.prepared.profile c.in-Ok.prepared.job.kernel (sent_in c.in-Ok.prepared) c.perform.result.answer
+    c.perform.result.done.items c.in-Ok.prepared.how.profile c.in-Ok.prepared.how.kernel (sent_in c.in-Ok.prepared) c.perform.result.answer
     ready.means ready.kernel_is ready.profile_is ready.files c.perform.ensures
 
 pub returns-in-Err-clause-outcome : goal.returns-in-Err-clause-outcome

@@ -1,0 +1,34 @@
+//! How the pages of a stream are printed.
+ghost use Rattle.driver_core.specs.Printing.Setup.{setup_of};
+ghost use Rattle.std.specs.Prelude.{◌≡◌};
+
+use crate::fitting::job_way;
+use diffusion_kernel::Kernel;
+use job_words::Job;
+use page_definitions::Way;
+use printer_profile::Profile;
+
+/// How the pages of a stream are printed.
+#[derive(Clone, Debug, PartialEq, Eq, Drop)]
+pub struct PrintSetup {
+    /// The printer.
+    pub profile: Profile,
+    /// The kernel of error diffusion.
+    pub kernel: Kernel,
+    /// How the head goes over a page.
+    pub way: Way,
+    /// How many workers: 1 to 64.
+    pub workers: u8,
+}
+
+/// How a job prints by a profile.
+pub fn job_setup(job: &Job, profile: &Profile) -> PrintSetup
+    ensures { result ≡ setup_of job.now profile.now }
+{
+    PrintSetup {
+        profile: *profile,
+        kernel: job.kernel,
+        way: job_way(job),
+        workers: job.workers,
+    }
+}
