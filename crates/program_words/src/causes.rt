@@ -1,5 +1,5 @@
-//! What the causes of error lines mean: the one place that says it. `--help CAUSE` shows these texts, and
-//! `docs/causes.py` puts them into the manual pages and into `docs/USING.md`.
+//! What the causes of error lines mean. `--help CAUSE` shows these texts, and `docs/causes.py` puts them into the
+//! manual pages.
 
 use base_definitions::{MOST_COLUMNS, MOST_ROWS};
 
@@ -129,7 +129,7 @@ profile: line 1: BadHead
         name: "NotAscii",
         text: "\
 profile: line N: NotAscii
-  The line has a byte that is not ASCII. Write comments without accents.
+  The line has a byte that is not ASCII. Only comments may have such bytes.
 ",
     },
     CauseText {
