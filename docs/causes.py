@@ -1,12 +1,11 @@
 #!/usr/bin/python3
-"""Puts what the causes of error lines mean into docs/USING.md and into the manual pages.
+"""Puts what the causes of error lines mean into the manual pages.
 
     docs/causes.py PROGRAM [--check]
 
 PROGRAM is the driver, as crates/driver_program/out/driver_program: its --help lists the causes by status, and its
---help CAUSE says what each means. A section for them begins with the line "causes: KIND", which may be followed by
-names of causes, and ends with "end of causes", both in a comment: <!-- .. --> in USING.md, .\\" .. in a manual page.
-KIND is the word with which error lines begin, as usage or input.
+--help CAUSE says what each means. A section for them begins with the comment .\\" causes: KIND, perhaps with names of
+causes behind it, and ends with .\\" end of causes. KIND is the word with which error lines begin, as usage or input.
 
 With --check nothing is written, and the status is 1 if a file would change.
 """
@@ -17,7 +16,7 @@ import textwrap
 from pathlib import Path
 
 TOP = Path(__file__).resolve().parent.parent
-FILES = [TOP / "docs/USING.md", *sorted((TOP / "packaging/man").iterdir())]
+FILES = sorted((TOP / "packaging/man").iterdir())
 STATUSES = {"usage": 1, "profile": 2, "input": 3, "job": 8}
 WIDTH = 120
 
@@ -41,18 +40,17 @@ def ask(program, *words):
 def update(file, program, is_check):
     """Whether a file changes."""
     old = file.read_text()
-    pattern = re.compile(r'^(<!-- |\.\\" )causes: (.*?)( -->)?\n.*?^\1end of causes', re.MULTILINE | re.DOTALL)
-    new = pattern.sub(lambda found: section(program, *found.group(1, 2, 3)), old)
+    pattern = re.compile(r'^\.\\" causes: (.*?)\n.*?^\.\\" end of causes', re.MULTILINE | re.DOTALL)
+    new = pattern.sub(lambda found: section(program, found[1]), old)
     if new != old and not is_check:
         file.write_text(new)
     return new != old
 
 
-def section(program, begin, what, end):
+def section(program, what):
     kind, *names = what.split()
     found = [entry for name in names or names_of(program, kind) for entry in entries(program, name, kind)]
-    body = manual(found) if begin.startswith(".") else table(found)
-    return f"{begin}causes: {what}{end or ''}\n{body}\n{begin}end of causes"
+    return f'.\\" causes: {what}\n{manual(found)}\n.\\" end of causes'
 
 
 def names_of(program, kind):
@@ -68,11 +66,6 @@ def entries(program, name, kind):
         line, _, meaning = part.partition("\n")
         if line.startswith(f"{kind}:"):
             yield line, " ".join(meaning.split())
-
-
-def table(found):
-    rows = [f"| `{line}` | {meaning.replace('|', chr(92) + '|')} |" for line, meaning in found]
-    return "\n".join(["", "| Line | What it means, and what to do |", "|---|---|", *rows, ""])
 
 
 def manual(found):
