@@ -233,3 +233,13 @@ costs_step {row} {table} {filled} {cost} {end} {equal} so_far some counted least
 -- all places are filled
 pub costs_end : (row table : List ℕ) (filled : Filled) → IsFilled row table filled → filled.at ≡ 0 → table ≡ costs row
 costs_end row table filled so_far none = sym (ap (λ k. drop k table) none) ∙ so_far.done ∙ ap (λ k. costs (drop k row)) none
+
+-- a literal goes on over a place where no three equal bytes begin
+pub literal_on : (row : List ℕ) (p end cost : ℕ) → p + 3 ≤ end → end < p + 128 → IsEnd 128 row (p + 1) end → equal_at (drop p row) ≤ 2
+    → cost ≡ fewest (drop end row) + (end - p) + 1 → IsFront row p cost end
+literal_on row p end cost behind near is few so =
+    literal_front row p (p + 1) end (equal_at (drop p row)) cost refl (omega (arith, is.on, is.within))
+    (end_less row (p + 1) end end is (λ less. refl) (λ far. absurd (omega (arith, near, far)))) refl (omega (arith, so, behind))
+    (λ many.
+    let two : equal_at (drop p row) ≡ 2 = omega (arith, many, few) in
+    omega (arith, so, behind, is.nearest (p + 2) (omega arith) (omega (arith, behind)), ap (λ k. fewest (drop (p + k) row)) two))

@@ -6,6 +6,7 @@ ghost use Rattle.escp2_rows.specs.Passing.{cost};
 ghost use Rattle.escp2_definitions.specs.Least.{costs, equal_at};
 ghost use Rattle.std.specs.Prelude.{[], drop, length, ◌+◌, ◌-◌, ◌<◌, ◌≡◌, ◌≤◌};
 
+use crate::literals::is_three;
 use arrayvec::ArrayVec;
 use base_definitions::MOST_ROW_BYTES;
 
@@ -30,6 +31,16 @@ fn equal_from(row: &[u8], behind: usize) -> usize
     } else {
         1
     }
+}
+
+// How many of the first bytes are equal, if no three are.
+#[inline]
+fn equal_two(row: &[u8]) -> usize
+    requires two { 2 ≤ length row.now }
+    requires few { equal_at row.now ≤ 2 }
+    ensures { result ≡ equal_at row.now }
+{
+    if row[0] == row[1] { 2 } else { 1 }
 }
 
 // How far a table of a row's costs is filled, from the row's end on.
@@ -108,6 +119,52 @@ fn fill_byte(row: &[u8], table: &mut [u16], filled: Filled) -> Filled
     }
 }
 
+// Fills the places before a place for as long as a literal goes on over them: no three equal bytes begin there, and the
+// place where the literal ends best is neither next to them nor too far away.
+#[inline]
+fn fill_literal(row: &[u8], table: &mut [u16], filled: Filled) -> Filled
+    requires most { length row.now ≤ most_row_bytes }
+    requires filled { IsFilled row.now table.old filled }
+    requires behind { filled.at + 2 ≤ filled.end }
+    ensures filled { IsFilled row.now table.new result }
+    ensures before { result.at ≤ filled.at }
+{
+    let mut at = filled.at;
+    let mut cost = table[filled.end] + (filled.end - filled.at) as u16 + 1;
+    'places: while at > 0 && filled.end - at < MOST_BYTES - 1 && !is_three(&row[at - 1..]) {
+        at -= 1;
+        cost += 1;
+        table[at] = cost;
+    }
+    let equal = if at < filled.at {
+        equal_two(&row[at..])
+    } else {
+        filled.equal
+    };
+    Filled {
+        at,
+        equal,
+        end: filled.end,
+    }
+}
+
+// Fills the place before a place, and those before it for as long as a literal goes on over them.
+#[inline]
+fn fill_before(row: &[u8], table: &mut [u16], filled: Filled) -> Filled
+    requires most { length row.now ≤ most_row_bytes }
+    requires filled { IsFilled row.now table.old filled }
+    requires some { 0 < filled.at }
+    ensures filled { IsFilled row.now table.new result }
+    ensures before { result.at < filled.at }
+{
+    let next = fill_byte(row, table, filled);
+    if next.end - next.at >= 2 {
+        fill_literal(row, table, next)
+    } else {
+        next
+    }
+}
+
 /// Writes the costs of a row over what the table has.
 pub fn fill_costs(row: &[u8], table: &mut [u16])
     requires most { length row.now ≤ most_row_bytes }
@@ -121,7 +178,7 @@ pub fn fill_costs(row: &[u8], table: &mut [u16])
     };
     table[filled.at] = 0;
     'bytes: while filled.at > 0 {
-        filled = fill_byte(row, table, filled);
+        filled = fill_before(row, table, filled);
     }
 }
 

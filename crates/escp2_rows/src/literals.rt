@@ -84,9 +84,9 @@ pub(crate) fn equal_bytes(row: &[u8]) -> usize
     copies(&row[..row.len().min(MOST_BYTES)], row[0])
 }
 
-// Whether the first three bytes are equal.
+/// Whether the first three bytes are equal.
 #[inline]
-fn is_three(row: &[u8]) -> bool
+pub(crate) fn is_three(row: &[u8]) -> bool
     requires { 3 ≤ length row.now }
     ensures { result ≡ are_three row.now 0 }
 {
