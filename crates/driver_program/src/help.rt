@@ -4,13 +4,13 @@ use program_words::{CAUSES, ProgramTexts};
 const HELP: &str = "\
 jinthbao - prints PWG Raster pages as ESC/P2 jobs, and shows what such jobs print
 
-usage: jinthbao print [profile=NAME] [kernel=NAME] [workers=NUMBER] [cap=NUMBER]
+usage: jinthbao print [profile=NAME] [kernel=NAME] [grain=NUMBER] [workers=NUMBER] [cap=NUMBER]
                       [shingle=1 | dead=NUMBER,..] < pages.pwg > job.prn
        jinthbao dots [profile=NAME] [most=NUMBER] < job.prn > images.pbm
        jinthbao list [most=NUMBER] < job.prn
        jinthbao profile [profile=NAME]
-       jinthbao trial [profile=NAME] [kernel=NAME] [workers=NUMBER] [seed=NUMBER] [pages=NUMBER]
-                      [width=NUMBER] [height=NUMBER] [kind=NAME] [shingle=1 | dead=NUMBER,..]
+       jinthbao trial [profile=NAME] [kernel=NAME] [grain=NUMBER] [workers=NUMBER] [seed=NUMBER]
+                      [pages=NUMBER] [width=NUMBER] [height=NUMBER] [kind=NAME] [shingle=1 | dead=NUMBER,..]
        jinthbao --help [CAUSE] | --version
 
 print    reads pages from standard input (PWG Raster, PWG 5102.4; grey, black, RGB and CMYK of 8 bits a colour,
@@ -25,6 +25,7 @@ trial    makes pages of drawn lines, prints them into memory, runs the job on th
 profile=NAME    tiny1, tiny, p360k, p360cmyk, p720cmyk, or a file of the current folder
                 (default p360cmyk)
 kernel=NAME     fs (Floyd and Steinberg), jjn (Jarvis, Judice and Ninke) or stucki (default fs)
+grain=NUMBER    0 to 32 (default 0): evens out flat colours
 workers=NUMBER  1 to 64 (default 1): so many threads halftone a page and code its rows, and one of them reads and
                 writes; the job is the same for each number
 cap=NUMBER      the most dots that the job may print, all inks together (default: no limit): a kiosk's quota,

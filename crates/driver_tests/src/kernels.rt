@@ -68,7 +68,7 @@ fn prints_alike<R: Abort + Threads + Sync>(
     (kernel, length, hash, images): Hashed,
 ) -> Result<(), Fail> {
     for workers in ["workers=1", "workers=2", "workers=64"] {
-        let words = ["print", "profile=tiny1", kernel, workers];
+        let words = ["print", "profile=tiny1", kernel, "grain=0", workers];
         let left = run_bytes(rt, alloc, &words, page.clone()?, no_files(alloc))?;
         hashes_to(rt, &left, length, hash);
         plays_to(rt, alloc, &left, 7040, images)?;
@@ -140,4 +140,28 @@ fn worker_counts_give_equal_bytes(rt: HostRuntime) -> Result<(), Fail> {
     ];
     let page = drawn_page(rt.alloc(), 7, 200, 70)?;
     try_kernels(&rt, rt.alloc(), &page, &CASES)
+}
+
+// The job of a page with grain by this many workers.
+fn grained_job<R: Threads + Sync>(
+    rt: &R,
+    alloc: Global,
+    page: &Vec<u8>,
+    workers: &str,
+) -> Result<Vec<u8>, Fail> {
+    let words = ["print", "profile=tiny1", "kernel=jjn", "grain=16", workers];
+    let left = run_bytes(rt, alloc, &words, page.clone()?, no_files(alloc))?;
+    let mut job = Vec::new(alloc);
+    job.extend_from_slice(left.out.bytes())?;
+    Ok(job)
+}
+
+#[test]
+fn worker_counts_give_equal_bytes_with_grain(rt: HostRuntime) -> Result<(), Fail> {
+    let alloc = rt.alloc();
+    let page = drawn_page(alloc, 7, 200, 300)?;
+    let alone = grained_job(&rt, alloc, &page, "workers=1")?;
+    let together = grained_job(&rt, alloc, &page, "workers=4")?;
+    assert!(rt; 1000 < alone.len() && alone == together);
+    Ok(())
 }

@@ -3,7 +3,7 @@
 use crate::any_printer::{PLAINEST, Printer};
 use crate::fixture::{leaves, run_bytes, text_shelf};
 use crate::pictures::{Picture, print_picture, prints_its_dots};
-use crate::plain::KERNELS;
+use crate::plain::{GRAINED, KERNELS, Screening};
 use driver_fixtures::begin;
 use pwg_header::Kind;
 use std::alloc::Global;
@@ -47,19 +47,32 @@ fn printer_of(inks: InkSet) -> Printer {
     }
 }
 
-// Prints a picture of each kind with each kernel.
-fn try_width<R: Abort + Threads + Sync>(
+// Prints a picture with each of three kernels.
+fn prints_by_each<R: Abort + Threads + Sync>(
+    rt: &R,
+    alloc: Global,
+    printer: &Printer,
+    picture: &Picture,
+    kernels: &[Screening; 3],
+) -> Result<(), Fail> {
+    for how in kernels {
+        prints_its_dots(rt, alloc, printer, picture, how)?;
+    }
+    Ok(())
+}
+
+// Prints a picture of each kind with each of three kernels.
+fn try_size<R: Abort + Threads + Sync>(
     rt: &R,
     alloc: Global,
     inks: InkSet,
-    width: u32,
+    size: (u32, u32),
+    kernels: &[Screening; 3],
 ) -> Result<(), Fail> {
     let printer = printer_of(inks);
     for (kind, seed) in KINDS.into_iter().zip(1u64..6) {
-        let picture = Picture::random(alloc, kind, (width, 11), seed)?;
-        for kernel in &KERNELS {
-            prints_its_dots(rt, alloc, &printer, &picture, kernel)?;
-        }
+        let picture = Picture::random(alloc, kind, size, seed)?;
+        prints_by_each(rt, alloc, &printer, &picture, kernels)?;
     }
     Ok(())
 }
@@ -68,7 +81,18 @@ fn try_width<R: Abort + Threads + Sync>(
 fn each_kind_is_printed_by_each_set_and_kernel(rt: HostRuntime) -> Result<(), Fail> {
     for inks in [InkSet::K, InkSet::Cmy, InkSet::Cmyk] {
         for width in [1, 7, 8, 9] {
-            try_width(&rt, rt.alloc(), inks, width)?;
+            try_size(&rt, rt.alloc(), inks, (width, 11), &KERNELS)?;
+        }
+    }
+    Ok(())
+}
+
+// The last rows of the tallest pictures are in a second slab.
+#[test]
+fn each_kind_is_printed_with_grain(rt: HostRuntime) -> Result<(), Fail> {
+    for inks in [InkSet::K, InkSet::Cmy, InkSet::Cmyk] {
+        for size in [(1, 9), (70, 11), (5, 260)] {
+            try_size(&rt, rt.alloc(), inks, size, &GRAINED)?;
         }
     }
     Ok(())
@@ -136,9 +160,8 @@ fn pages_of_the_greatest_width_are_printed(rt: HostRuntime) -> Result<(), Fail> 
     let alloc = rt.alloc();
     for kind in [Kind::Rgb8, Kind::Black1, Kind::Cmyk8] {
         let picture = Picture::random(alloc, kind, (8191, 2), 5)?;
-        for kernel in &KERNELS {
-            prints_its_dots(&rt, alloc, &printer_of(InkSet::Cmyk), &picture, kernel)?;
-        }
+        prints_by_each(&rt, alloc, &printer_of(InkSet::Cmyk), &picture, &KERNELS)?;
+        prints_by_each(&rt, alloc, &printer_of(InkSet::Cmyk), &picture, &GRAINED)?;
     }
     Ok(())
 }

@@ -1,7 +1,7 @@
 //! Pictures of pseudo-random pixels, and their prints.
 use crate::any_printer::Printer;
 use crate::machine::execute;
-use crate::plain::{INKS, Kernel, wanted};
+use crate::plain::{INKS, Screening, wanted};
 use driver_fixtures::{Left, add_header, begin, one_file, plain, roomy, run_over};
 use pwg_header::Kind;
 use std::alloc::{AllocError, Global};
@@ -168,14 +168,14 @@ pub fn print_picture<R: Threads + Sync>(
     alloc: Global,
     printer: &Printer,
     picture: &Picture,
-    kernel: &Kernel,
+    how: &Screening,
 ) -> Result<Left, Fail> {
     let text = printer.text(alloc)?;
     let resolution = (u32::from(printer.hdpi), u32::from(printer.vdpi));
     let left = run_over(
         rt,
         alloc,
-        &["print", "profile=any.txt", kernel.word],
+        &["print", "profile=any.txt", how.kernel_word, how.grain_word],
         plain(alloc, picture.stream(alloc, resolution)?),
         roomy(alloc)?,
         one_file(alloc, "any.txt", text.as_bytes())?,
@@ -189,7 +189,7 @@ fn fires_its_dots<R: Abort>(
     alloc: Global,
     printer: &Printer,
     picture: &Picture,
-    kernel: &Kernel,
+    how: &Screening,
     job: &[u8],
 ) -> Result<(), Fail> {
     let window = printer.window(picture.width, picture.height);
@@ -198,11 +198,12 @@ fn fires_its_dots<R: Abort>(
     let wanted_length = i64::from(picture.height).checked_mul(3600);
     assert!(rt; (printed.sheets, length) == (1, wanted_length));
     for (ink, dots) in INKS.iter().zip(printed.dots.iter()) {
-        let wanted = wanted(alloc, printer, picture, kernel, *ink)?;
+        let wanted = wanted(alloc, printer, picture, how, *ink)?;
         assert!(rt;
             dots.cells() == wanted.cells(),
-            "{ink:?} by {}",
-            kernel.word
+            "{ink:?} by {} {}",
+            how.kernel_word,
+            how.grain_word
         );
     }
     Ok(())
@@ -214,10 +215,10 @@ pub fn prints_its_dots<R: Abort + Threads + Sync>(
     alloc: Global,
     printer: &Printer,
     picture: &Picture,
-    kernel: &Kernel,
+    how: &Screening,
 ) -> Result<(), Fail> {
-    let left = print_picture(rt, alloc, printer, picture, kernel)?;
+    let left = print_picture(rt, alloc, printer, picture, how)?;
     let (status, job, line) = left.all();
     assert!(rt; status == 0 && line.is_empty());
-    fires_its_dots(rt, alloc, printer, picture, kernel, job)
+    fires_its_dots(rt, alloc, printer, picture, how, job)
 }

@@ -9,52 +9,91 @@ use weave_base::{Ink, InkSet, Memory};
 /// The inks, in the order in which a printer fires them.
 pub const INKS: [Ink; 4] = [Ink::Black, Ink::Cyan, Ink::Magenta, Ink::Yellow];
 
-/// A kernel: its word on the command line, and the shares of an error, each with its distance to the right and down.
+/// Shares of an error, each with its distance to the right and down.
+type Shares = &'static [(i64, i64, i64)];
+
+/// A kernel and a grain: their words on the command line, the shares of an error, and how far an amount may move.
 #[derive(Clone, Copy)]
-pub struct Kernel {
-    pub word: &'static str,
-    pub shares: &'static [(i64, i64, i64)],
+pub struct Screening {
+    pub kernel_word: &'static str,
+    pub shares: Shares,
+    pub grain_word: &'static str,
+    pub grain: i64,
 }
 
-/// The three kernels.
-pub const KERNELS: [Kernel; 3] = [
-    Kernel {
-        word: "kernel=fs",
-        shares: &[(1, 0, 7), (-1, 1, 3), (0, 1, 5), (1, 1, 1)],
+const FLOYD: Shares = &[(1, 0, 7), (-1, 1, 3), (0, 1, 5), (1, 1, 1)];
+
+const JARVIS: Shares = &[
+    (1, 0, 7),
+    (2, 0, 5),
+    (-2, 1, 3),
+    (-1, 1, 5),
+    (0, 1, 7),
+    (1, 1, 5),
+    (2, 1, 3),
+    (-2, 2, 1),
+    (-1, 2, 3),
+    (0, 2, 5),
+    (1, 2, 3),
+    (2, 2, 1),
+];
+
+const STUCKI: Shares = &[
+    (1, 0, 8),
+    (2, 0, 4),
+    (-2, 1, 2),
+    (-1, 1, 4),
+    (0, 1, 8),
+    (1, 1, 4),
+    (2, 1, 2),
+    (-2, 2, 1),
+    (-1, 2, 2),
+    (0, 2, 4),
+    (1, 2, 2),
+    (2, 2, 1),
+];
+
+/// The three kernels, without grain.
+pub const KERNELS: [Screening; 3] = [
+    Screening {
+        kernel_word: "kernel=fs",
+        shares: FLOYD,
+        grain_word: "grain=0",
+        grain: 0,
     },
-    Kernel {
-        word: "kernel=jjn",
-        shares: &[
-            (1, 0, 7),
-            (2, 0, 5),
-            (-2, 1, 3),
-            (-1, 1, 5),
-            (0, 1, 7),
-            (1, 1, 5),
-            (2, 1, 3),
-            (-2, 2, 1),
-            (-1, 2, 3),
-            (0, 2, 5),
-            (1, 2, 3),
-            (2, 2, 1),
-        ],
+    Screening {
+        kernel_word: "kernel=jjn",
+        shares: JARVIS,
+        grain_word: "grain=0",
+        grain: 0,
     },
-    Kernel {
-        word: "kernel=stucki",
-        shares: &[
-            (1, 0, 8),
-            (2, 0, 4),
-            (-2, 1, 2),
-            (-1, 1, 4),
-            (0, 1, 8),
-            (1, 1, 4),
-            (2, 1, 2),
-            (-2, 2, 1),
-            (-1, 2, 2),
-            (0, 2, 4),
-            (1, 2, 2),
-            (2, 2, 1),
-        ],
+    Screening {
+        kernel_word: "kernel=stucki",
+        shares: STUCKI,
+        grain_word: "grain=0",
+        grain: 0,
+    },
+];
+
+/// The three kernels, each with another grain.
+pub const GRAINED: [Screening; 3] = [
+    Screening {
+        kernel_word: "kernel=fs",
+        shares: FLOYD,
+        grain_word: "grain=1",
+        grain: 1,
+    },
+    Screening {
+        kernel_word: "kernel=jjn",
+        shares: JARVIS,
+        grain_word: "grain=16",
+        grain: 16,
+    },
+    Screening {
+        kernel_word: "kernel=stucki",
+        shares: STUCKI,
+        grain_word: "grain=32",
+        grain: 32,
     },
 ];
 
@@ -154,11 +193,31 @@ fn amount(printer: &Printer, picture: &Picture, ink: Ink, x: i64, y: i64) -> i64
     i64::from(printer.tone(ink, given)) * i64::from(printer.limit(ink)) / 255
 }
 
+// An amount of an ink with grain, at column x and row y of the window.
+fn grained(printer: &Printer, grain: i64, ink: Ink, amount: i64, x: i64, y: i64) -> i64 {
+    let number = match ink {
+        Ink::Black => 0,
+        Ink::Cyan => 1,
+        Ink::Magenta => 2,
+        Ink::Yellow => 3i64,
+    };
+    let place = x
+        .wrapping_mul(49471)
+        .wrapping_add(y.wrapping_mul(37344))
+        .wrapping_add(number.wrapping_mul(16384))
+        .rem_euclid(65536);
+    let left = i64::from(printer.limit(ink)).wrapping_sub(amount);
+    let reach = grain.min(amount).min(left);
+    let values = reach.wrapping_mul(2).wrapping_add(1);
+    let step = place.wrapping_mul(values).div_euclid(65536);
+    amount.wrapping_add(step).wrapping_sub(reach)
+}
+
 // What the errors near a pixel give to it, in sixteenths of an amount.
-fn given(kernel: &Kernel, errors: &Grid, x: i64, y: i64) -> i64 {
+fn given(how: &Screening, errors: &Grid, x: i64, y: i64) -> i64 {
     let mut sum: i64 = 0;
     let mut parts: i64 = 0;
-    for (right, down, share) in kernel.shares {
+    for (right, down, share) in how.shares {
         let error = errors.get(x.wrapping_sub(*right), y.wrapping_sub(*down));
         sum = sum.wrapping_add(share.wrapping_mul(error));
         parts = parts.wrapping_add(*share);
@@ -167,12 +226,12 @@ fn given(kernel: &Kernel, errors: &Grid, x: i64, y: i64) -> i64 {
 }
 
 // Diffuses a row, below the errors of the rows above.
-fn diffuse_row(kernel: &Kernel, amounts: &Grid, y: i64, errors: &mut Grid, dots: &mut Grid) {
+fn diffuse_row(how: &Screening, amounts: &Grid, y: i64, errors: &mut Grid, dots: &mut Grid) {
     for x in 0..amounts.width {
         let value = amounts
             .get(x, y)
             .wrapping_mul(16)
-            .wrapping_add(given(kernel, errors, x, y));
+            .wrapping_add(given(how, errors, x, y));
         if value >= 2040 {
             dots.set(x, y, 1);
             errors.set(x, y, value.wrapping_sub(4080));
@@ -183,21 +242,29 @@ fn diffuse_row(kernel: &Kernel, amounts: &Grid, y: i64, errors: &mut Grid, dots:
 }
 
 // The dots of a plane of amounts: 1 for a dot, else 0.
-fn diffuse(alloc: Global, kernel: &Kernel, amounts: &Grid) -> Result<Grid, Memory> {
+fn diffuse(alloc: Global, how: &Screening, amounts: &Grid) -> Result<Grid, Memory> {
     let mut errors = Grid::make(alloc, amounts.width, amounts.height)?;
     let mut dots = Grid::make(alloc, amounts.width, amounts.height)?;
     for y in 0..amounts.height {
-        diffuse_row(kernel, amounts, y, &mut errors, &mut dots);
+        diffuse_row(how, amounts, y, &mut errors, &mut dots);
     }
     Ok(dots)
 }
 
-// The amounts of an ink in a row of the window.
-fn weigh_row(printer: &Printer, picture: &Picture, ink: Ink, y: i64, amounts: &mut Grid) {
+// The amounts of an ink in a row of the window, with grain.
+fn weigh_row(
+    printer: &Printer,
+    picture: &Picture,
+    how: &Screening,
+    ink: Ink,
+    y: i64,
+    amounts: &mut Grid,
+) {
     for x in 0..amounts.width {
         let across = x.wrapping_add(i64::from(printer.left));
         let down = y.wrapping_add(i64::from(printer.top));
-        amounts.set(x, y, amount(printer, picture, ink, across, down));
+        let amount = amount(printer, picture, ink, across, down);
+        amounts.set(x, y, grained(printer, how.grain, ink, amount, x, y));
     }
 }
 
@@ -207,15 +274,15 @@ pub fn wanted(
     alloc: Global,
     printer: &Printer,
     picture: &Picture,
-    kernel: &Kernel,
+    how: &Screening,
     ink: Ink,
 ) -> Result<Grid, Memory> {
     let (width, height) = printer.window(picture.width, picture.height);
     let mut amounts = Grid::make(alloc, width, height)?;
     if has_ink(printer.inks, ink) {
         for y in 0..height {
-            weigh_row(printer, picture, ink, y, &mut amounts);
+            weigh_row(printer, picture, how, ink, y, &mut amounts);
         }
     }
-    diffuse(alloc, kernel, &amounts)
+    diffuse(alloc, how, &amounts)
 }

@@ -3,7 +3,7 @@ use crate::any_printer::{PLAINEST, Printer};
 use crate::fixture::{leaves, run_bytes, text_shelf};
 use crate::grid::Grid;
 use crate::pictures::{Picture, print_picture};
-use crate::plain::{INKS, KERNELS, Kernel, wanted};
+use crate::plain::{INKS, KERNELS, Screening, wanted};
 use driver_fixtures::Left;
 use pwg_header::Kind;
 use std::alloc::{AllocError, Global};
@@ -49,11 +49,11 @@ fn images_of(
     alloc: Global,
     printer: &Printer,
     picture: &Picture,
-    kernel: &Kernel,
+    how: &Screening,
 ) -> Result<Vec<u8>, Fail> {
     let mut images = Vec::new(alloc);
     for &ink in &INKS {
-        let dots = wanted(alloc, printer, picture, kernel, ink)?;
+        let dots = wanted(alloc, printer, picture, how, ink)?;
         add_image(alloc, &dots, picture.height, printer.top, &mut images)?;
     }
     Ok(images)
@@ -65,9 +65,9 @@ fn played<R: Abort + Threads + Sync>(
     alloc: Global,
     printer: &Printer,
     picture: &Picture,
-    kernel: &Kernel,
+    how: &Screening,
 ) -> Result<Left, Fail> {
-    let job = print_picture(rt, alloc, printer, picture, kernel)?;
+    let job = print_picture(rt, alloc, printer, picture, how)?;
     assert!(rt; job.status == 0);
     let text = printer.text(alloc)?;
     let job = job.out.bytes().to_vec(alloc)?;
@@ -83,9 +83,9 @@ fn plays_its_dots<R: Abort + Threads + Sync>(
     printer: &Printer,
     picture: &Picture,
 ) -> Result<(), Fail> {
-    for kernel in &KERNELS {
-        let left = played(rt, alloc, printer, picture, kernel)?;
-        let images = images_of(alloc, printer, picture, kernel)?;
+    for how in &KERNELS {
+        let left = played(rt, alloc, printer, picture, how)?;
+        let images = images_of(alloc, printer, picture, how)?;
         leaves(rt, &left, (0, &images, b""));
     }
     Ok(())

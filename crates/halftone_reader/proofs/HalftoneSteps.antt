@@ -2,7 +2,8 @@
 use Rattle.std.proofs.Common.{◌≡◌, ℕ, ◌+◌, ◌-◌, ◌<◌, ◌≤◌, List, [], ◌++◌, replicate, Option, None, false, refl, ◌∙◌, ap}
 use Rattle.std.proofs.Common.{append-nil, append_assoc, arith, subst, sym}
 use Rattle.std.proofs.lemmas.List.{replicate-append-replicate}
-use Rattle.diffusion_kernel.specs.Tables.{table_of}
+use Rattle.grained_rows.specs.declared.grain.InkGrain.{InkGrain}
+use Rattle.page_halftoner.specs.Screenings.{screening_of}
 use Rattle.diffusion_kernel.specs.declared.tables.Kernel.{Kernel}
 use Rattle.dot_planes.specs.Tables.{DotTable, HasSizeOf, dot}
 use Rattle.wavefront_team.specs.SoFar.{dots_in}
@@ -28,9 +29,9 @@ begun-wanted want old now before left form begins = check-wanted want (header_of
 
 pub so_far_begin : (b : Begun) (now : PageReader) (left : Option (List ℕ)) (f : Filling) (d : Diffusing)
     → BeginsPage (wanted_by b.profile) b.reader now b.before left b.form → has_ended b.reader ≡ false → stop_of now ≡ None
-    → (f.profile ≡ b.profile) × (f.form ≡ b.form) → d.kernel ≡ b.kernel
+    → (f.profile ≡ b.profile) × (f.form ≡ b.form) → d.kernel ≡ b.kernel → d.grain.grain ≡ b.grain
     → f.count ≡ 0 → StandsFor (joined f d) [] → HalftonedSoFar b now left f d
-so_far_begin b now left f d begins unended going same kernel none stands = record {
+so_far_begin b now left f d begins unended going same kernel grain none stands = record {
   lines = [];
   pending = 0;
   page = page_begin (wanted_by b.profile) b.reader now b.before left b.form begins unended going;
@@ -39,6 +40,7 @@ so_far_begin b now left f d begins unended going same kernel none stands = recor
   profile_is = same.0;
   form_is = same.1;
   kernel_is = kernel;
+  grain_is = grain;
 }
 
 -- Some of the pending repeats are placed.
@@ -62,6 +64,7 @@ so_far_placed b now left f g d placed so_far most same count puts =
       profile_is = same.profile ∙ so_far.profile_is;
       form_is = same.form ∙ so_far.form_is;
       kernel_is = so_far.kernel_is;
+      grain_is = so_far.grain_is;
     }
 
 -- One more group is read, once all repeats of the one before are placed.
@@ -84,6 +87,7 @@ so_far_group b now next left left' f d repeats so_far none some gives going =
         profile_is = so_far.profile_is;
         form_is = so_far.form_is;
         kernel_is = so_far.kernel_is;
+        grain_is = so_far.grain_is;
       },
       refl,
     )
@@ -100,6 +104,7 @@ so_far_diffused b now left f next d done all so_far = record {
   profile_is = all.goes_on.profile ∙ so_far.profile_is;
   form_is = all.goes_on.form ∙ so_far.form_is;
   kernel_is = all.kernel ∙ so_far.kernel_is;
+  grain_is = ap (λ (g : InkGrain). g.grain) all.grain ∙ so_far.grain_is;
 }
 
 -- The last line was read, and all rows are diffused.
@@ -107,7 +112,7 @@ pub so_far_end : (b : Begun) (now : PageReader) (left : Option (List ℕ)) (f : 
     → HalftonedSoFar b now left f d → HoldsRows f → (IsFull f → ⊥) → f.count ≡ f.form.height
     → HasRoom b.form b.profile (dots_in d.dots) → HasSizeOf d.dots.planes t
     → ((i y x : ℕ) → i < t.inks → y < t.rows → x < t.width → dot t i y x ≡ (dots_in d.dots).dot i y x)
-    → ReadsHalftone b.profile (table_of b.kernel) b.reader now b.before left b.form t
+    → ReadsHalftone b.profile (screening_of b.kernel b.grain) b.reader now b.before left b.form t
 so_far_end b now left f d t so_far rows full all room size same =
     let form : PageForm = b.form in
     let height : f.form.height ≡ form.height = ap (λ (g : PageForm). g.height) so_far.form_is in
@@ -121,13 +126,15 @@ so_far_end b now left f d t so_far rows full all room size same =
     let here : Room f.profile f.form = subst (λ q. Room q f.form) (sym so_far.profile_is)
     (subst (λ g. Room b.profile g) (sym so_far.form_is) room) in
     let dots = whole_page (joined f d) so_far.lines t so_far.stands (all_diffused f rows full all) here size same in
-    let Has : Printer → PageForm → Kernel → Type 0 =
-    λ q g k. HasDots q (halftone (record { form = g; lines = so_far.lines }) q (table_of k)) t.width t.rows t.inks (dot t) in
+    let Has : Printer → PageForm → Kernel → ℕ → Type 0 = λ q g k grain.
+    HasDots q (halftone (record { form = g; lines = so_far.lines }) q (screening_of k grain)) t.width t.rows t.inks (dot t) in
     record {
       page = record { form = form; lines = so_far.lines };
       reads = page_end (wanted_by b.profile) b.reader now b.before left (record { form = form; lines = so_far.lines })
           (subst P placed so_far.page) last;
       form_is = refl;
-      dots = subst (λ q. Has q b.form b.kernel) so_far.profile_is (subst (λ g. Has f.profile g b.kernel) so_far.form_is
-          (subst (λ k. Has f.profile f.form k) so_far.kernel_is dots));
+      dots = subst (λ q. Has q b.form b.kernel b.grain) so_far.profile_is
+          (subst (λ g. Has f.profile g b.kernel b.grain) so_far.form_is
+          (subst (λ k. Has f.profile f.form k b.grain) so_far.kernel_is
+          (subst (λ grain. Has f.profile f.form d.kernel grain) so_far.grain_is dots)));
     }

@@ -8,6 +8,7 @@ use Rattle.wavefront_team.specs.Slabs.{DiffusesSlab}
 use Rattle.wavefront_team.specs.SoFar.{dots_in}
 use Rattle.ink_separation.specs.Separators.{IsSeparatorOf}
 use Rattle.raw_rows.specs.declared.kept.RawRows.{RawRows}
+use Rattle.grained_rows.specs.Grained.{grained_table}
 use Rattle.page_halftoner.specs.Halftones.{Diffusing, Filling, GoesOn, HasRoom, HoldsRows, IsFull, IsSameRows, IsSpare}
 use Rattle.printer_definitions.specs.Printer.{Printer}
 use Rattle.pwg_definitions.specs.declared.pages.PageForm.{PageForm}
@@ -77,18 +78,22 @@ fills_err T U r k r' left mid left' f g e same more some going input taken used 
 
 -- A full slab was diffused by its amounts from its first row on, and the rows below it begun.
 pub slab_done : (f f' : Filling) (d d' : Diffusing) (slab : AmountTable) (first : ℕ)
-    → IsFull f → HoldsRows f → HasRoom f.form f.profile (dots_in d.dots) → GoesOn f f' → d'.kernel ≡ d.kernel
+    → IsFull f → HoldsRows f → HasRoom f.form f.profile (dots_in d.dots) → GoesOn f f' → d'.kernel ≡ d.kernel → d'.grain ≡ d.grain
     → slab ≡ f.slab → first ≡ f.first
-    → DiffusesSlab (table_of d.kernel) slab d.top d'.top first (dots_in d.dots) (dots_in d'.dots) → IsDone f f' d d'
-slab_done f f' d d' slab first full rows room goes_on kernel slab_is first_is diffused =
-    let S : AmountTable → Type 0 = λ s. DiffusesSlab (table_of d.kernel) s d.top d'.top f.first (dots_in d.dots) (dots_in d'.dots) in
-    let F : ℕ → Type 0 = λ n. DiffusesSlab (table_of d.kernel) slab d.top d'.top n (dots_in d.dots) (dots_in d'.dots) in
+    → DiffusesSlab (table_of d.kernel) (grained_table d.grain first slab) d.top d'.top first (dots_in d.dots) (dots_in d'.dots)
+    → IsDone f f' d d'
+slab_done f f' d d' slab first full rows room goes_on kernel grain slab_is first_is diffused =
+    let Done : ℕ → AmountTable → Type 0 = λ n s.
+    DiffusesSlab (table_of d.kernel) (grained_table d.grain n s) d.top d'.top n (dots_in d.dots) (dots_in d'.dots) in
+    let S : AmountTable → Type 0 = λ s. Done f.first s in
+    let F : ℕ → Type 0 = λ n. Done n slab in
     record {
       full = full;
       rows = rows;
       tall = room.rows;
       goes_on = goes_on;
       kernel = kernel;
+      grain = grain;
       diffused = subst S slab_is (subst F first_is diffused);
     }
 

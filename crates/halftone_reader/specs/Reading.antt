@@ -2,8 +2,7 @@
 use Rattle.pwg_definitions.specs.Limits.{most_pages}
 use Rattle.std.specs.Prelude.{◌≡◌, ℕ, ◌+◌, ◌≤◌, List, ◌++◌, Option, None}
 use Rattle.std.specs.Io.KnownBytes.{Consumes}
-use Rattle.diffusion_definitions.specs.Diffusion.{Table}
-use Rattle.page_definitions.specs.Dots.{HasDots, halftone}
+use Rattle.page_definitions.specs.Dots.{HasDots, Screening, halftone}
 use Rattle.printer_definitions.specs.Printer.{Printer}
 use Rattle.pwg_definitions.specs.declared.pages.PageForm.{PageForm}
 use Rattle.pwg_definitions.specs.declared.pages.Wanted.{Wanted}
@@ -24,12 +23,12 @@ pub record ReadsPage (want : Wanted) (old new : PageReader) (before now : Option
   pub unended : has_ended new ≡ has_ended old
 
 -- The next page was read, and the planes have the dots of its halftone.
-pub record ReadsHalftone (p : Printer) (k : Table)
+pub record ReadsHalftone (p : Printer) (s : Screening)
     (old new : PageReader) (before now : Option (List ℕ)) (form : PageForm) (planes : DotTable) : Type 0 where
   pub page : Page
   pub reads : ReadsPage (wanted_by p) old new before now page
   pub form_is : form ≡ page.form
-  pub dots : HasDots p (halftone page p k) planes.width planes.rows planes.inks (dot planes)
+  pub dots : HasDots p (halftone page p s) planes.width planes.rows planes.inks (dot planes)
 
 -- The reader is between two pages.
 pub record IsBetween (reader : PageReader) : Type 0 where

@@ -45,18 +45,26 @@ abbrev pub EndsSo : Wanted → PageReader → Option (List ℕ) → ℕ → ℕ 
 EndsSo want old before number line why = IfSome (text_of old before) (λ text.
     pages_from want (most_pages - page_of old) (page_of old + 1) text ≡ record { pages = []; end = Fault number line why })
 
--- A page that was begun: the printer and the kernel that it is halftoned for, its form, and the reader and what its
--- source had left before the page.
+-- A page that was begun: the printer, the kernel and the grain that it is halftoned for, its form, and the reader and
+-- what its source had left before the page.
 pub record Begun : Type 0 where
   pub profile : Printer
   pub kernel : Kernel
+  pub grain : ℕ
   pub form : PageForm
   pub reader : PageReader
   pub before : Option (List ℕ)
 
 -- the page that begins with this form, where this was left of the input
-abbrev pub begun : Printer → Kernel → PageForm → PageReader → Option (List ℕ) → Begun
-begun p k form reader before = record { profile = p; kernel = k; form = form; reader = reader; before = before }
+abbrev pub begun : Printer → Kernel → ℕ → PageForm → PageReader → Option (List ℕ) → Begun
+begun p k grain form reader before = record {
+  profile = p;
+  kernel = k;
+  grain = grain;
+  form = form;
+  reader = reader;
+  before = before;
+}
 
 -- What was read so far is a prefix of the page, and the halftoning stands for its lines, but for the last repeats of
 -- the last line, which are still to be placed.
@@ -70,6 +78,7 @@ pub record HalftonedSoFar (b : Begun) (now : PageReader) (left : Option (List �
   pub profile_is : f.profile ≡ b.profile
   pub form_is : f.form ≡ b.form
   pub kernel_is : d.kernel ≡ b.kernel
+  pub grain_is : d.grain.grain ≡ b.grain
 
 -- the page may be read on: no stop stands, and the lines that are left are among those that are to be placed
 pub record MayReadOn (r : PageReader) (f : Filling) : Type 0 where

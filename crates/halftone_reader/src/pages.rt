@@ -1,6 +1,6 @@
 //! Pages that are read and halftoned.
-ghost use Rattle.diffusion_kernel.specs.Tables.{table_of};
 ghost use Rattle.halftone_reader.specs.Reading.{IsBetween, ReadsHalftone};
+ghost use Rattle.page_halftoner.specs.Screenings.{screening_of};
 ghost use Rattle.printer_profile.specs.Validity.{check};
 ghost use Rattle.pwg_definitions.specs.Limits.{most_pages};
 ghost use Rattle.pwg_definitions.specs.Stream.StreamEnd.{Fault};
@@ -36,21 +36,22 @@ pub struct HalftonedPage {
     pub planes: Planes,
 }
 
-/// Reads the next page with all its lines and halftones it; the team diffuses its slabs. `None` at the end of the
-/// stream.
+/// Reads the next page with all its lines and halftones it, with this grain, 0 for none; the team diffuses its slabs.
+/// `None` at the end of the stream.
 pub fn read_page<R: Threads + Sync, S: Source, G: Gate + Sync>(
     team: &Team<'_, R, G>,
     alloc: Global,
     reader: &mut PageReader,
     profile: &Profile,
     kernel: Kernel,
+    grain: u8,
     source: &mut S,
 ) -> Result<Option<HalftonedPage>, StreamStop>
     requires checked { IsOk (check profile.now) }
     requires between { IsBetween reader.old }
     requires unended { has_ended reader.old ≡ false }
     ensures page { IfOk result (λ o. IfSome o (λ page.
-        ReadsHalftone profile.now (table_of kernel) reader.old reader.new (S.left source.old) (S.left source.new)
+        ReadsHalftone profile.now (screening_of kernel grain) reader.old reader.new (S.left source.old) (S.left source.new)
         page.form page.planes)) }
     ensures none { IfOk result
         (λ o. IfNone o (IsAtEnd (text_of reader.old (S.left source.old))
@@ -71,7 +72,7 @@ pub fn read_page<R: Threads + Sync, S: Source, G: Gate + Sync>(
         return Ok(None);
     };
     let mut filler = Filler::begin(alloc, profile, form)?;
-    let mut diffuser = Diffuser::begin(alloc, profile, form, kernel)?;
+    let mut diffuser = Diffuser::begin(alloc, profile, form, kernel, grain)?;
     let mut spare = filler.spare(alloc, team.workers)?;
     fill(&mut filler, reader, source)?;
     'slabs: while filler.is_full() {

@@ -1,6 +1,6 @@
 -- The dots of pages, and meters that count them.
 use Rattle.std.specs.Prelude.{ℕ, List, [], ◌∷◌, map, All, count_by}
-use Rattle.diffusion_definitions.specs.Diffusion.{Table}
+use Rattle.page_definitions.specs.Dots.{Screening}
 use Rattle.escp2_definitions.specs.Machine.{Dot}
 use Rattle.ink_meter.specs.Accounts.{Account, HasRoom, added}
 use Rattle.page_definitions.specs.Dots.{Halftone, dots_wanted, halftone}
@@ -24,16 +24,16 @@ abbrev pub halftone_dots : Printer → Halftone → InkCounts
 halftone_dots p h = ink_dots (dots_wanted p h)
 
 -- The dots of each ink that a page asks for.
-unfoldable pub page_dots : Page → Printer → Table → InkCounts
-page_dots page p k = halftone_dots p (halftone page p k)
+unfoldable pub page_dots : Page → Printer → Screening → InkCounts
+page_dots page p s = halftone_dots p (halftone page p s)
 
 -- The meters after counting these pages, one after another.
-abbrev pub counted : Printer → Table → List Page → List Account → List Account
-counted p k [] accounts = accounts
-counted p k (page ∷ pages) accounts = counted p k pages (map (added (page_dots page p k)) accounts)
+abbrev pub counted : Printer → Screening → List Page → List Account → List Account
+counted p s [] accounts = accounts
+counted p s (page ∷ pages) accounts = counted p s pages (map (added (page_dots page p s)) accounts)
 
 -- Each meter has room for each page, after counting the pages before it.
-abbrev pub Admitted : Printer → Table → List Page → List Account → Type 0
-Admitted p k [] accounts = Unit {0}
-Admitted p k (page ∷ pages) accounts =
-    All (HasRoom (page_dots page p k)) accounts × Admitted p k pages (map (added (page_dots page p k)) accounts)
+abbrev pub Admitted : Printer → Screening → List Page → List Account → Type 0
+Admitted p s [] accounts = Unit {0}
+Admitted p s (page ∷ pages) accounts =
+    All (HasRoom (page_dots page p s)) accounts × Admitted p s pages (map (added (page_dots page p s)) accounts)

@@ -11,6 +11,7 @@ plain_job verb = record {
   verb = verb;
   profile_word = 0;
   kernel = Floyd;
+  grain = 0;
   workers = 1;
   cap = None;
   most = 17179869184;

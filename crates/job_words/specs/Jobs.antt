@@ -3,11 +3,13 @@ use Rattle.std.specs.Prelude.{◌≡◌, ℕ, ◌<◌, ◌≤◌, List, [], leng
 use Rattle.std.specs.List.{AllByRecursion}
 use Rattle.base_definitions.specs.Limits.{most_columns, most_rows}
 use Rattle.dead_nozzles.specs.Dead.{IsRising}
+use Rattle.separation_definitions.specs.Grain.{most_grain}
 use Rattle.job_words.specs.Values.{greatest_most}
 use Rattle.job_words.specs.declared.reading.Job.{Job}
 
 -- the numbers of a job are those that its words may give
 pub record IsWithinBounds (job : Job) : Type 0 where
+  pub most_grain : job.grain ≤ most_grain
   pub some_workers : 1 ≤ job.workers
   pub most_workers : job.workers ≤ 64
   pub most_bytes : job.most ≤ greatest_most

@@ -11,10 +11,12 @@ use Rattle.diffusion_kernel.specs.declared.tables.Kernel.TheVariants.{Floyd}
 use Rattle.pwg_definitions.specs.declared.pages.Kind.TheVariants.{Gray8}
 use Rattle.key_values.specs.Pairs.{is_key_value, key_of, value_of}
 use Rattle.job_words.specs.DeadLists.{dead_value}
-use Rattle.job_words.specs.Values.{cap_value, greatest_most, height_value, is_text, kernel_named, kind_named, most_value}
-use Rattle.job_words.specs.Values.{page_count, seed_value, shingle_value, width_value, worker_count}
-use Rattle.job_words.specs.Table.{KeyRow, CommandRow, command_named, key_named, profile_key, kernel_key, workers_key}
-use Rattle.job_words.specs.Table.{cap_key, most_key, shingle_key, dead_key, seed_key, pages_key, width_key, height_key, kind_key}
+use Rattle.job_words.specs.Values.{cap_value, grain_value, greatest_most, height_value, is_text, kernel_named}
+use Rattle.job_words.specs.Values.{kind_named, most_value, page_count, seed_value, shingle_value, width_value}
+use Rattle.job_words.specs.Values.{worker_count}
+use Rattle.job_words.specs.Table.{KeyRow, CommandRow, command_named, key_named, profile_key, kernel_key, grain_key}
+use Rattle.job_words.specs.Table.{workers_key, cap_key, most_key, shingle_key, dead_key, seed_key, pages_key, width_key}
+use Rattle.job_words.specs.Table.{height_key, kind_key}
 use Rattle.job_words.specs.declared.reading.Job.{Job}
 
 -- whether a word gives this key
@@ -82,6 +84,7 @@ job_of command words = record {
   verb = command.verb;
   profile_word = unwrap_or (given_profile_word words) 0;
   kernel = unwrap_or (given_as kernel_key kernel_named words) Floyd;
+  grain = unwrap_or (given_as grain_key grain_value words) 0;
   workers = unwrap_or (given_as workers_key worker_count words) 1;
   cap = given_as cap_key cap_value words;
   most = unwrap_or (given_as most_key most_value words) greatest_most;

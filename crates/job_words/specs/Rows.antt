@@ -1,7 +1,8 @@
 -- The rows of the table for the commands and keys in the code.
-use Rattle.job_words.specs.Table.{CommandRow, KeyRow, cap_key, dead_key, dots_command, height_key, kernel_key, kind_key}
-use Rattle.job_words.specs.Table.{list_command, most_key, pages_key, print_command, profile_command, profile_key}
-use Rattle.job_words.specs.Table.{seed_key, shingle_key, trial_command, width_key, workers_key}
+use Rattle.job_words.specs.Table.{CommandRow, KeyRow, cap_key, dead_key, dots_command, grain_key, height_key}
+use Rattle.job_words.specs.Table.{kernel_key, kind_key, list_command, most_key, pages_key, print_command}
+use Rattle.job_words.specs.Table.{profile_command, profile_key, seed_key, shingle_key, trial_command, width_key}
+use Rattle.job_words.specs.Table.{workers_key}
 use Rattle.job_words.specs.declared.table.Verb.{Verb}
 use Rattle.job_words.specs.declared.table.Verb.TheVariants as verb
 use Rattle.job_words.specs.declared.keys.JobKey.{JobKey}
@@ -19,6 +20,7 @@ command_row verb.Trial = trial_command
 abbrev pub key_row : JobKey → KeyRow
 key_row key.Profile = profile_key
 key_row key.Kernel = kernel_key
+key_row key.Grain = grain_key
 key_row key.Workers = workers_key
 key_row key.Cap = cap_key
 key_row key.Most = most_key

@@ -1,8 +1,8 @@
 -- The table of commands and keys.
 use Rattle.std.specs.Prelude.{ℕ, Bool, nat_le, ◌&&◌, List, [], ◌∷◌, codes, length, find, is_some, Option}
 use Rattle.job_words.specs.DeadLists.{dead_value}
-use Rattle.job_words.specs.Values.{cap_value, height_value, is_text, kernel_named, kind_named, most_value, page_count}
-use Rattle.job_words.specs.Values.{seed_value, shingle_value, width_value, worker_count}
+use Rattle.job_words.specs.Values.{cap_value, grain_value, height_value, is_text, kernel_named, kind_named, most_value}
+use Rattle.job_words.specs.Values.{page_count, seed_value, shingle_value, width_value, worker_count}
 use Rattle.job_words.specs.declared.table.Verb.{Verb}
 use Rattle.job_words.specs.declared.table.Verb.TheVariants as verb
 
@@ -24,6 +24,10 @@ profile_key = record { name = codes "profile"; takes = λ value. nat_le 1 (lengt
 -- the kernel of error diffusion
 abbrev pub kernel_key : KeyRow
 kernel_key = record { name = codes "kernel"; takes = λ value. is_some (kernel_named value) }
+
+-- how much grain is put on amounts, from 0 to 32
+abbrev pub grain_key : KeyRow
+grain_key = record { name = codes "grain"; takes = λ value. is_some (grain_value value) }
 
 -- how many workers, from 1 to 64
 abbrev pub workers_key : KeyRow
@@ -70,7 +74,7 @@ abbrev pub print_command : CommandRow
 print_command = record {
   verb = verb.Print;
   name = codes "print";
-  keys = profile_key ∷ kernel_key ∷ workers_key ∷ cap_key ∷ shingle_key ∷ dead_key ∷ [];
+  keys = profile_key ∷ kernel_key ∷ grain_key ∷ workers_key ∷ cap_key ∷ shingle_key ∷ dead_key ∷ [];
 }
 
 -- the command that shows the dots of a job as images
@@ -91,7 +95,7 @@ trial_command = record {
   verb = verb.Trial;
   name = codes "trial";
   keys =
-      profile_key ∷ kernel_key ∷ workers_key ∷ seed_key ∷ pages_key ∷ width_key ∷ height_key ∷ kind_key
+      profile_key ∷ kernel_key ∷ grain_key ∷ workers_key ∷ seed_key ∷ pages_key ∷ width_key ∷ height_key ∷ kind_key
       ∷ shingle_key ∷ dead_key ∷ [];
 }
 

@@ -8,6 +8,7 @@ use Rattle.diffusion_kernel.specs.declared.tables.Kernel.{Kernel}
 use Rattle.diffusion_kernel.specs.declared.tables.Kernel.TheVariants.{Floyd, Jarvis, Stucki}
 use Rattle.pwg_definitions.specs.declared.pages.Kind.{Kind}
 use Rattle.pwg_definitions.specs.declared.pages.Kind.TheVariants.{Gray8, Black8, Rgb8, Black1, Cmyk8}
+use Rattle.separation_definitions.specs.Grain.{most_grain}
 
 -- whether two texts are the same
 abbrev pub is_text : List ℕ → List ℕ → Bool
@@ -20,6 +21,10 @@ kernel_named text =
     else if is_text text (codes "jjn") then Some Jarvis
     else if is_text text (codes "stucki") then Some Stucki
     else None
+
+-- how much grain is put on amounts
+abbrev pub grain_value : List ℕ → Option ℕ
+grain_value text = number_within 0 most_grain text
 
 -- the most dots that the meters may count: any number of 64 bits
 abbrev pub cap_value : List ℕ → Option ℕ

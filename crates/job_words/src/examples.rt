@@ -21,6 +21,8 @@ pub fn jobs()
         ≡ Ok (record (plain_job verb.Print) { profile_word = 4; kernel = Jarvis; workers = 10 }) }
     ensures profile { job_meaning (codes "profile" ∷ codes "profile=c" ∷ [])
         ≡ Ok (record (plain_job verb.Profile) { profile_word = 2 }) }
+    ensures grained { job_meaning (codes "print" ∷ codes "grain=32" ∷ [])
+        ≡ Ok (record (plain_job verb.Print) { grain = 32 }) }
     ensures capped { job_meaning (codes "print" ∷ codes "cap=0" ∷ [])
         ≡ Ok (record (plain_job verb.Print) { cap = Some 0 }) }
     ensures listed { job_meaning (codes "list" ∷ codes "most=10" ∷ [])
@@ -35,6 +37,8 @@ pub fn jobs()
         ≡ Ok (plain_job verb.Trial) }
     ensures made { job_meaning (codes "trial" ∷ codes "seed=0" ∷ codes "pages=16" ∷ codes "kind=cmyk" ∷ codes "height=1" ∷ [])
         ≡ Ok (record (plain_job verb.Trial) { seed = 0; pages = 16; kind = Cmyk8; height = 1 }) }
+    ensures made_with_grain { job_meaning (codes "trial" ∷ codes "grain=1" ∷ codes "seed=0" ∷ [])
+        ≡ Ok (record (plain_job verb.Trial) { grain = 1; seed = 0 }) }
     ensures built_in { profile_named (codes "print" ∷ []) ≡ codes "p360cmyk" }
     ensures named { profile_named (codes "print" ∷ codes "kernel=fs" ∷ codes "profile=a=b" ∷ []) ≡ codes "a=b" }
 {}
@@ -47,6 +51,8 @@ pub fn refused_lines()
     ensures unknown_key { job_meaning (codes "print" ∷ codes "most=1" ∷ []) ≡ Err (fault_at 2 UnknownKey) }
     ensures no_profile_of_a_list { job_meaning (codes "list" ∷ codes "profile=tiny" ∷ [])
         ≡ Err (fault_at 2 UnknownKey) }
+    ensures past_the_most_grain { job_meaning (codes "print" ∷ codes "grain=33" ∷ []) ≡ Err (fault_at 2 BadValue) }
+    ensures no_grain_of_a_list { job_meaning (codes "list" ∷ codes "grain=0" ∷ []) ≡ Err (fault_at 2 UnknownKey) }
     ensures past_64_bits { job_meaning (codes "print" ∷ codes "kernel=fs" ∷ codes "cap=18446744073709551616" ∷ [])
         ≡ Err (fault_at 3 BadValue) }
     ensures key_of_another { job_meaning (codes "profile" ∷ codes "kernel=fs" ∷ []) ≡ Err (fault_at 2 UnknownKey) }

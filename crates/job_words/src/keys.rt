@@ -3,8 +3,8 @@ ghost use Rattle.std.specs.Prelude.{◌≡◌};
 
 use crate::dead_lists::dead_value;
 use crate::values::{
-    cap_value, height_value, is_profile_name, kernel_named, kind_named, most_value, page_count,
-    seed_value, shingle_value, width_value, worker_count,
+    cap_value, grain_value, height_value, is_profile_name, kernel_named, kind_named, most_value,
+    page_count, seed_value, shingle_value, width_value, worker_count,
 };
 
 /// A key of some command.
@@ -12,6 +12,7 @@ use crate::values::{
 pub enum JobKey {
     Profile,
     Kernel,
+    Grain,
     Workers,
     Cap,
     Most,
@@ -34,6 +35,7 @@ impl JobKey {
         match self {
             JobKey::Profile => "profile",
             JobKey::Kernel => "kernel",
+            JobKey::Grain => "grain",
             JobKey::Workers => "workers",
             JobKey::Cap => "cap",
             JobKey::Most => "most",
@@ -54,6 +56,7 @@ impl JobKey {
         match self {
             JobKey::Profile => is_profile_name(value),
             JobKey::Kernel => kernel_named(value).is_some(),
+            JobKey::Grain => grain_value(value).is_some(),
             JobKey::Workers => worker_count(value).is_some(),
             JobKey::Cap => cap_value(value).is_some(),
             JobKey::Most => most_value(value).is_some(),

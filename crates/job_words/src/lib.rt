@@ -26,5 +26,5 @@ pub use pwg_definitions::Kind;
 pub use reading::{DEFAULT_PROFILE, Job, profile_name, read_words};
 pub use table::Verb;
 pub use usage::{UsageCause, UsageFault};
-pub use values::{MOST_NAME, kernel_named, worker_count};
+pub use values::{MOST_NAME, grain_value, kernel_named, worker_count};
 pub use weave_base::Words;

@@ -13,8 +13,8 @@ use crate::keys::JobKey;
 use crate::table::Verb;
 use crate::usage::{UsageCause, UsageFault};
 use crate::values::{
-    GREATEST_MOST, cap_value, height_value, kernel_named, kind_named, most_value, page_count,
-    seed_value, shingle_value, width_value, worker_count,
+    GREATEST_MOST, cap_value, grain_value, height_value, kernel_named, kind_named, most_value,
+    page_count, seed_value, shingle_value, width_value, worker_count,
 };
 use dead_nozzles::DeadNozzles;
 use diffusion_kernel::Kernel;
@@ -40,6 +40,8 @@ pub struct Job {
     pub profile_word: u32,
     /// The kernel of error diffusion.
     pub kernel: Kernel,
+    /// How much grain is put on amounts: 0 to 32.
+    pub grain: u8,
     /// How many workers: 1 to 64.
     pub workers: u8,
     /// The most dots that the meters may count; `None` where no word gives it.
@@ -118,6 +120,9 @@ fn job_given(verb: Verb, words: &Words) -> Job
         kernel: value_given(words, JobKey::Kernel)
             .and_then(kernel_named)
             .unwrap_or(Kernel::Floyd),
+        grain: value_given(words, JobKey::Grain)
+            .and_then(grain_value)
+            .unwrap_or(0),
         workers: value_given(words, JobKey::Workers)
             .and_then(worker_count)
             .unwrap_or(1),

@@ -46,6 +46,7 @@ impl Verb {
                 JobKey::Profile,
             ),
             (Verb::Print | Verb::Trial, "kernel") => Some(JobKey::Kernel),
+            (Verb::Print | Verb::Trial, "grain") => Some(JobKey::Grain),
             (Verb::Print | Verb::Trial, "workers") => Some(JobKey::Workers),
             (Verb::Print, "cap") => Some(JobKey::Cap),
             (Verb::Dots | Verb::List, "most") => Some(JobKey::Most),

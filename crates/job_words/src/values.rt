@@ -1,13 +1,14 @@
 //! The values of keys.
 ghost use Rattle.std.specs.Prelude.{length, nat_le, ◌&&◌, ◌≡◌};
-ghost use Rattle.job_words.specs.Values.{cap_value as cap_of, kernel_named as kernel_of, kind_named as kind_of};
-ghost use Rattle.job_words.specs.Values.{height_value as height_of, most_value as most_of, page_count as pages_of};
-ghost use Rattle.job_words.specs.Values.{seed_value as seed_of, shingle_value as shingle_of, width_value as width_of};
-ghost use Rattle.job_words.specs.Values.{worker_count as workers_of};
+ghost use Rattle.job_words.specs.Values.{cap_value as cap_of, grain_value as grain_of, kernel_named as kernel_of};
+ghost use Rattle.job_words.specs.Values.{height_value as height_of, kind_named as kind_of, most_value as most_of};
+ghost use Rattle.job_words.specs.Values.{page_count as pages_of, seed_value as seed_of, shingle_value as shingle_of};
+ghost use Rattle.job_words.specs.Values.{width_value as width_of, worker_count as workers_of};
 
 use diffusion_kernel::Kernel;
 use key_values::number_within;
 use pwg_definitions::{Kind, MOST_COLUMNS, MOST_ROWS};
+use separation_definitions::MOST_GRAIN;
 
 /// The most bytes of a job that are read: 16 GiB.
 pub const GREATEST_MOST: u64 = 17_179_869_184;
@@ -38,6 +39,14 @@ pub fn kernel_named(text: &str) -> Option<Kernel>
         "stucki" => Some(Kernel::Stucki),
         _ => None,
     }
+}
+
+/// How much grain is put on amounts: 0 to 32.
+pub fn grain_value(text: &str) -> Option<u8>
+    ensures { result ≡ grain_of text.now }
+{
+    let number = number_within(0, u64::from(MOST_GRAIN), text.as_bytes())?;
+    Some(number as u8)
 }
 
 /// The most dots that the meters may count: a number of 64 bits.

@@ -7,10 +7,15 @@ use Rattle.printer_definitions.specs.Printer.{Printer}
 use Rattle.diffusion_definitions.specs.Diffusion.{Plane, Table, errors, no_top, on}
 use Rattle.escp2_definitions.specs.Machine.{Dot}
 use Rattle.separation_definitions.specs.declared.window.Window.{Window}
-use Rattle.separation_definitions.specs.Amounts.{ink_plane}
+use Rattle.separation_definitions.specs.Grain.{grained_plane}
 use Rattle.separation_definitions.specs.Windows.{window_of}
 use Rattle.pwg_definitions.specs.Stream.{Page}
 use Rattle.base_definitions.specs.Counting.{count_from}
+
+-- How amounts become dots: this grain is put on them, and they are diffused by this table.
+pub record Screening : Type 0 where
+  pub table : Table
+  pub grain : ℕ
 
 -- The dots of a window: whether an ink has a dot in row y at column x.
 pub record Halftone : Type 0 where
@@ -18,14 +23,15 @@ pub record Halftone : Type 0 where
   pub height : ℕ
   pub dot : Ink → ℕ → ℕ → Bool
 
--- The dots that row-by-row diffusion of each ink's amounts sets in the window of a page.
-abbrev pub halftone : Page → Printer → Table → Halftone
-halftone page p k =
+-- The dots that row-by-row diffusion of each ink's amounts, with their grain, sets in the window of a page.
+abbrev pub halftone : Page → Printer → Screening → Halftone
+halftone page p s =
     let window : Window = window_of page.form p in
     record {
       width = window.width;
       height = window.height;
-      dot = λ ink y x. let plane : Plane = ink_plane page p ink in on k plane (errors k plane no_top) y x;
+      dot = λ ink y x.
+          let plane : Plane = grained_plane page p s.grain ink in on s.table plane (errors s.table plane no_top) y x;
     }
 
 -- where on paper the dot of an ink in row y at column x of the window is
@@ -46,8 +52,8 @@ abbrev pub dots_wanted : Printer → Halftone → List Dot
 dots_wanted p h = flat_map (ink_wanted p h) (inks_of p.inks)
 
 -- The dots that a page asks for.
-abbrev pub wanted : Page → Printer → Table → List Dot
-wanted page p k = dots_wanted p (halftone page p k)
+abbrev pub wanted : Page → Printer → Screening → List Dot
+wanted page p s = dots_wanted p (halftone page p s)
 
 -- A table of dots, by the ink's place in the printer's set, row and column, has the dots of a halftone.
 pub record HasDots (p : Printer) (h : Halftone) (width rows inks : ℕ) (dot : ℕ → ℕ → ℕ → Bool) : Type 0 where

@@ -2,9 +2,8 @@
 use Rattle.std.specs.Prelude.{ℕ, ◌*◌, Bool, false, List, map, replicate, Option, Some, None}
 use Rattle.printer_definitions.specs.declared.inks.Ink.{Ink}
 use Rattle.printer_definitions.specs.Printer.{Printer, row_units, head_rows}
-use Rattle.diffusion_definitions.specs.Diffusion.{Table}
 use Rattle.escp2_definitions.specs.Written.{Coding, shortest}
-use Rattle.page_definitions.specs.Dots.{Halftone, halftone}
+use Rattle.page_definitions.specs.Dots.{Halftone, Screening, halftone}
 use Rattle.page_definitions.specs.Strokes.{Stroke, Strokes, strokes_bytes}
 use Rattle.pwg_definitions.specs.Stream.{Page}
 use Rattle.base_definitions.specs.Counting.{count_from}
@@ -40,5 +39,5 @@ unfoldable pub halftone_bytes : Printer → Halftone → ℕ → List ℕ
 halftone_bytes p h len = strokes_bytes page_coding p h.width h.height len (weave p h)
 
 -- The bytes that print a page.
-unfoldable pub page_bytes : Page → Printer → Table → List ℕ
-page_bytes page p k = halftone_bytes p (halftone page p k) (page.form.height * row_units p)
+unfoldable pub page_bytes : Page → Printer → Screening → List ℕ
+page_bytes page p s = halftone_bytes p (halftone page p s) (page.form.height * row_units p)

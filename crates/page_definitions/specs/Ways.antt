@@ -2,10 +2,9 @@
 use Rattle.std.specs.Prelude.{◌≡◌, ℕ, ◌*◌, ◌≤◌, Bool, List, Ok}
 use Rattle.std.specs.List.{AllByRecursion}
 use Rattle.dead_nozzles.specs.Dead.{IsRising, checked}
-use Rattle.diffusion_definitions.specs.Diffusion.{Table}
 use Rattle.escp2_definitions.specs.Commands.{commands}
 use Rattle.escp2_definitions.specs.Rasters.{ink_rasters}
-use Rattle.page_definitions.specs.Dots.{Halftone, halftone}
+use Rattle.page_definitions.specs.Dots.{Halftone, Screening, halftone}
 use Rattle.page_definitions.specs.Healed.{IsSpared, healed, healed_bytes, healed_passes}
 use Rattle.page_definitions.specs.PageBytes.{halftone_bytes, weave}
 use Rattle.page_definitions.specs.RasterRows.{FiresHalf, RasterRows}
@@ -40,8 +39,8 @@ halftone_bytes_by Shingled p h len = shingled_bytes p h len
 halftone_bytes_by (Healed dead) p h len = healed_bytes dead.items p h len
 
 -- The bytes that print a page this way.
-unfoldable pub page_bytes_by : Way → Page → Printer → Table → List ℕ
-page_bytes_by way page p k = halftone_bytes_by way p (halftone page p k) (page.form.height * row_units p)
+unfoldable pub page_bytes_by : Way → Page → Printer → Screening → List ℕ
+page_bytes_by way page p s = halftone_bytes_by way p (halftone page p s) (page.form.height * row_units p)
 
 -- the most rasters of an ink over a window of this many rows: one for each pass, and one for each row that is made up
 abbrev pub most_rasters : Way → Printer → ℕ → ℕ
@@ -63,9 +62,9 @@ pub record KeepsWay (way : Way) (p : Printer) (height : ℕ) (job : List ℕ) : 
   pub rows : RasterRows (MayFire way) (commands job).entries
 
 -- the job of a page keeps to its way over the page's window
-abbrev pub KeepsTo : Way → Printer → Table → Page → Type 0
-KeepsTo way p k page = KeepsWay way p (window_of page.form p).height (page_bytes_by way page p k)
+abbrev pub KeepsTo : Way → Printer → Screening → Page → Type 0
+KeepsTo way p s page = KeepsWay way p (window_of page.form p).height (page_bytes_by way page p s)
 
 -- the same for each page
-abbrev pub KeepTo : Way → Printer → Table → List Page → Type 0
-KeepTo way p k pages = AllByRecursion (KeepsTo way p k) pages
+abbrev pub KeepTo : Way → Printer → Screening → List Page → Type 0
+KeepTo way p s pages = AllByRecursion (KeepsTo way p s) pages

@@ -4,28 +4,38 @@ use Rattle.std.proofs.Common.{slice_get, length, get_or, refl}
 use Rattle.std.proofs.Common.{sym, ◌∙◌, ap, arith, inl, inr, subst, append_assoc, length-append, replicate, suc, zero, pos}
 use Rattle.std.proofs.lemmas.Bool.{cases_lt}
 use Rattle.std.proofs.lemmas.List.{append-nil, get_or_at}
-use Rattle.std.proofs.lemmas.Option.{slice_get_within}
+use Rattle.std.proofs.lemmas.Option.{get_or_from_slice_get, slice_get_within}
 use Rattle.diffusion_definitions.specs.Diffusion.{Errors, Plane, Table, errors, no_top, on}
 use Rattle.diffusion_definitions.proofs.Solve.{errors_top}
 use Rattle.diffusion_kernel.specs.Tables.{table_of}
-use Rattle.dot_planes.specs.Tables.{AmountTable, DotTable, HasSizeAs, HasSizeOf, dot}
+use Rattle.dot_planes.specs.Tables.{AmountTable, DotTable, HasSizeAs, HasSizeOf, amount, dot}
+use Rattle.grained_rows.specs.Grained.{grain_of, grained_amount, grained_table}
+use Rattle.grained_rows.specs.declared.grain.InkGrain.{InkGrain}
+use Rattle.raw_rows.proofs.Cells.{cell_is}
+use Rattle.raw_rows.specs.Raw.{ink_at}
 use Rattle.wavefront_team.specs.SoFar.{dots_in}
 use Rattle.ink_separation.specs.declared.separator.Separator.{Separator}
 use Rattle.raw_rows.specs.Raw.{table_of as amounts_of}
 use Rattle.raw_rows.specs.declared.kept.RawRows.{RawRows}
 use Rattle.printer_definitions.specs.Inks.{inks_of}
 use Rattle.printer_definitions.specs.declared.inks.Ink.{Ink}
-use Rattle.printer_definitions.specs.Printer.{Printer}
+use Rattle.printer_definitions.specs.declared.inks.Ink.TheVariants.{Black}
+use Rattle.printer_definitions.specs.declared.inks.InkSet.{InkSet}
+use Rattle.printer_definitions.specs.Printer.{Printer, limit_of}
+use Rattle.pwg_definitions.specs.Stream.{Page}
 use Rattle.pwg_definitions.specs.declared.pages.PageForm.{PageForm}
-use Rattle.separation_definitions.specs.Amounts.{amount as amount_of, pixel_at}
+use Rattle.separation_definitions.specs.Amounts.{amount as amount_of, ink_plane, pixel_at}
+use Rattle.separation_definitions.specs.Grain.{grain_place, grained, grained_plane}
 use Rattle.separation_definitions.specs.Windows.{window_of}
 use Rattle.wavefront_team.specs.Slabs.{DiffusesSlab}
 use Rattle.tile_border.specs.Tops.{edges_of}
 use Rattle.tile_edges.specs.Tops.{IsBelow, top_of}
 use Rattle.ink_separation.specs.Separated.{HasLine}
 use Rattle.page_halftoner.specs.Slabs.{TakesLine}
-use Rattle.page_halftoner.specs.Halftones.{Diffusing, EndsWith, Filling, GoesOn, Halftoning, HasRoom, HoldsRows, IsFull, IsSameRows, IsUpTo, PutsLines, StandsFor}
-use Rattle.page_halftoner.specs.Halftones.{held, joined, plane_of, rows_done, window, window_filled}
+use Rattle.page_halftoner.specs.Halftones.{Diffusing, EndsWith, Filling, GoesOn, Halftoning, HasRoom, HoldsRows, InkPlanes}
+use Rattle.page_halftoner.specs.Halftones.{IsFull, IsSameRows, IsUpTo, PutsLines, StandsFor}
+use Rattle.page_halftoner.specs.Screenings.{screening_of}
+use Rattle.page_halftoner.specs.Halftones.{held, joined, planes_of, rows_done, window, window_filled}
 use Rattle.separation_definitions.specs.declared.window.Window.{Window}
 use Rattle.diffusion_kernel.specs.declared.tables.Kernel.{Kernel}
 use Rattle.page_halftoner.proofs.SlabSteps.{row_more, slab_more}
@@ -55,11 +65,12 @@ in_margin f line margin d lines s =
     let held_same : held h ≡ rows_done (window h) (h.count + 1) - h.diffused = ap (λ n. n - h.diffused) rows_same in
     record {
       count = count_more lines line h.count s.count;
+      grain = s.grain;
       inks = λ i ink more is.
           let Q : List (List ℕ) → Type 0 =
-          λ ls. IsUpTo (table_of h.kernel) (plane_of h ink ls) i h.diffused (held h) (dots_in h.dots) h.top h.slab in
+          λ ls. IsUpTo (table_of h.kernel) (planes_of h ink ls) i h.diffused (held h) (dots_in h.dots) h.top h.slab in
           let R : ℕ → Type 0 = λ n. IsUpTo (table_of h.kernel)
-          (plane_of h ink ((lines ++ line ∷ []) ++ more)) i h.diffused n (dots_in h.dots) h.top h.slab in
+          (planes_of h ink ((lines ++ line ∷ []) ++ more)) i h.diffused n (dots_in h.dots) h.top h.slab in
           subst R held_same (subst Q (sym (behind lines line more)) (s.inks i ink (line ∷ more) is));
       few = omega (arith, s.few);
       blank = s.blank;
@@ -78,7 +89,7 @@ pub record IsNextRow (f : Filling) (line : List ℕ) (y : ℕ) (slab : AmountTab
 held_more : (f : Filling) (d : Diffusing) (line : List ℕ) (lines more : List (List ℕ)) (y i : ℕ) (ink : Ink) (slab : AmountTable)
     → IsNextRow f line y slab → StandsFor (joined f d) lines
     → slice_get (inks_of f.profile.inks) i ≡ Some ink
-    → IsUpTo (table_of d.kernel) (plane_of (joined f d) ink ((lines ++ line ∷ []) ++ more)) i f.first (y - f.first + 1) (dots_in d.dots) d.top slab
+    → IsUpTo (table_of d.kernel) (planes_of (joined f d) ink ((lines ++ line ∷ []) ++ more)) i f.first (y - f.first + 1) (dots_in d.dots) d.top slab
 held_more f d line lines more y i ink slab next s is =
     let h : Halftoning = joined f d in
     let n : ℕ = y - h.diffused in
@@ -87,14 +98,14 @@ held_more f d line lines more y i ink slab next s is =
     let row : h.diffused + n ≡ y = omega (arith, next.from) in
     let line_at : get_or ls ((window h).top + y) [] ≡ line =
     get_or_at lines line more [] ((window h).top + y) (omega (arith, s.count, next.place)) in
-    let P : ℕ → Type 0 = λ m. IsUpTo (table_of h.kernel) (plane_of h ink ls) i h.diffused m (dots_in h.dots) h.top h.slab in
+    let P : ℕ → Type 0 = λ m. IsUpTo (table_of h.kernel) (planes_of h ink ls) i h.diffused m (dots_in h.dots) h.top h.slab in
     let up = subst P held_is (s.inks i ink (line ∷ more) is) in
-    let Q : List (List ℕ) → Type 0 = λ all. IsUpTo (table_of h.kernel) (plane_of h ink all) i h.diffused (n + 1) (dots_in h.dots) h.top slab in
+    let Q : List (List ℕ) → Type 0 = λ all. IsUpTo (table_of h.kernel) (planes_of h ink all) i h.diffused (n + 1) (dots_in h.dots) h.top slab in
     subst Q (sym (behind lines line more)) (row_more
-    (table_of h.kernel) (plane_of h ink ls) i h.diffused n (dots_in h.dots) h.top h.slab slab up
+    (table_of h.kernel) (planes_of h ink ls) i h.diffused n (dots_in h.dots) h.top h.slab slab up
     (λ x across. next.takes.row.are i ink is x across
     ∙ ap (λ l. amount_of h.profile h.form.kind (pixel_at h.form.kind l ((window h).left + x)) ink) (sym line_at)
-    ∙ ap (λ m. (plane_of h ink ls).amount m x) (sym row)) (λ r x low across. next.takes.above.same i r x
+    ∙ ap (λ m. (planes_of h ink ls).plain.amount m x) (sym row)) (λ r x low across. next.takes.above.same i r x
     (omega (arith, next.rows.inks, slice_get_within (inks_of f.profile.inks) i ink is)) low (omega (arith, next.from, next.room))
     (omega (arith, next.rows.width, across))))
 
@@ -107,13 +118,30 @@ in_slab f line y slab next d lines s =
     omega (arith, next.place, next.inside, next.from) in
     record {
       count = count_more lines line h.count s.count;
+      grain = s.grain;
       inks = λ i ink more is.
           let R : ℕ → Type 0 = λ n. IsUpTo (table_of h.kernel)
-          (plane_of h ink ((lines ++ line ∷ []) ++ more)) i h.diffused n (dots_in h.dots) h.top slab in
+          (planes_of h ink ((lines ++ line ∷ []) ++ more)) i h.diffused n (dots_in h.dots) h.top slab in
           subst R held_is (held_more f d line lines more y i ink slab next s is);
       few = omega (arith, held_is, next.room, next.from, next.rows.most);
       blank = s.blank;
     }
+
+-- The ink of a place.
+ink_is : (set : InkSet) (i : ℕ) (ink : Ink) → slice_get (inks_of set) i ≡ Some ink → ink_at set i ≡ ink
+ink_is set i ink is = get_or_from_slice_get (inks_of set) i ink Black is
+
+-- A row of a slab has the amounts of its row of the page, with grain.
+row_grained : (g : InkGrain) (page : Page) (p : Printer) (i y x first : ℕ) (ink : Ink) (t : AmountTable) → g ≡ grain_of p g.grain
+    → slice_get (inks_of p.inks) i ≡ Some ink → i < t.inks → y < t.rows → x < t.width
+    → amount t i y x ≡ (ink_plane page p ink).amount (first + y) x
+    → amount (grained_table g first t) i y x ≡ (grained_plane page p g.grain ink).amount (first + y) x
+row_grained g page p i y x first ink t own is place row column same =
+    let with_ink : Ink → ℕ = λ ink. grained g.grain (limit_of p ink) (grain_place ink x (first + y)) (amount t i y x) in
+    cell_is (grained_amount g first t) t.inks t.rows t.width i y x place row column
+    ∙ ap (λ h. grained_amount h first t i y x) own
+    ∙ ap with_ink (ink_is p.inks i ink is)
+    ∙ ap (grained g.grain (limit_of p ink) (grain_place ink x (first + y))) same
 
 -- What is known where a slab is full, and is diffused.
 pub record IsDone (f next : Filling) (d done : Diffusing) : Type 0 where
@@ -122,7 +150,8 @@ pub record IsDone (f next : Filling) (d done : Diffusing) : Type 0 where
   pub tall : d.dots.planes.rows ≡ (window_filled f).height
   pub goes_on : GoesOn f next
   pub kernel : done.kernel ≡ d.kernel
-  pub diffused : DiffusesSlab (table_of d.kernel) f.slab d.top done.top f.first (dots_in d.dots) (dots_in done.dots)
+  pub grain : done.grain ≡ d.grain
+  pub diffused : DiffusesSlab (table_of d.kernel) (grained_table d.grain f.first f.slab) d.top done.top f.first (dots_in d.dots) (dots_in done.dots)
 
 -- a filling that went on
 went_on : (f next : Filling) → GoesOn f next → next
@@ -146,41 +175,54 @@ slab_full f next d done all lines s =
     let low : n ≤ w.height = omega (arith, all.full) in
     let held_is : held h ≡ f.slab.rows = omega (arith, all.full) in
     let none : 0 ≡ rows_done w h.count - n = omega (arith, all.full) in
-    let K : Kernel → Type 0 = λ k. StandsFor (joined next (record { kernel = k; dots = done.dots; top = done.top; failed = done.failed })) lines in
-    let F : Filling → Type 0 = λ g.
-    StandsFor (joined g (record { kernel = d.kernel; dots = done.dots; top = done.top; failed = done.failed })) lines in
-    subst K (sym all.kernel) (subst F (sym (went_on f next all.goes_on)) (record {
+    let Made : Filling → Kernel → InkGrain → Type 0 = λ g k grain.
+    StandsFor (joined g (record { kernel = k; grain = grain; dots = done.dots; top = done.top; failed = done.failed })) lines in
+    let K : Kernel → Type 0 = λ k. Made next k done.grain in
+    let G : InkGrain → Type 0 = λ grain. Made next d.kernel grain in
+    let F : Filling → Type 0 = λ g. Made g d.kernel d.grain in
+    subst K (sym all.kernel) (subst G (sym all.grain) (subst F (sym (went_on f next all.goes_on)) (record {
       count = s.count;
+      grain = s.grain;
       inks = λ i ink more is.
-          let p : Plane = plane_of h ink (lines ++ more) in
+          let p : InkPlanes = planes_of h ink (lines ++ more) in
           let P : ℕ → Type 0 = λ m. IsUpTo (table_of h.kernel) p i h.diffused m (dots_in h.dots) h.top h.slab in
           let up = subst P held_is (s.inks i ink more is) in
-          let now = slab_more (table_of h.kernel) p i h.diffused f.slab next.slab h.top done.top (dots_in h.dots) (dots_in done.dots) all.diffused up
-          (omega (arith, all.rows.inks, slice_get_within (inks_of h.profile.inks) i ink is))
-          all.rows.width all.rows.some low all.tall all.rows.whole in
+          let there : i < f.slab.inks = omega (arith, all.rows.inks, slice_get_within (inks_of h.profile.inks) i ink is) in
+          let page : Page = record { form = h.form; lines = lines ++ more } in
+          let now = slab_more (table_of h.kernel) p i h.diffused f.slab.rows f.slab (grained_table d.grain f.first f.slab)
+          next.slab h.top done.top (dots_in h.dots) (dots_in done.dots) all.diffused up
+          (λ y x row column. row_grained d.grain page h.profile i y x f.first ink f.slab s.grain is there row
+          (omega (arith, all.rows.width, column)) (up.amounts y x row column))
+          there all.rows.width all.rows.some low all.tall all.rows.whole in
           let R : ℕ → Type 0 = λ m. IsUpTo (table_of h.kernel) p i n m (dots_in done.dots) done.top next.slab in
           subst R none now;
       few = omega (arith, none);
       blank = λ i r x below inside.
           let size : done.dots.planes.rows ≡ h.dots.planes.rows = all.diffused.size.rows in
           all.diffused.others i r x (omega (arith, size)) (inr below) ∙ s.blank i r x (omega arith) (omega (arith, size));
-    }))
+    })))
+
+-- A grain that is a printer's is that of the same printer.
+pub own_grain : (p q : Printer) (g : InkGrain) (n : ℕ) → q ≡ p → g ≡ grain_of p n → g ≡ grain_of q g.grain
+own_grain p q g n same is =
+    is ∙ ap (λ m. grain_of p m) (sym (ap (λ (h : InkGrain). h.grain) is)) ∙ ap (λ r. grain_of r g.grain) (sym same)
 
 -- Before the first line no row is diffused or held.
-pub at_top : (h : Halftoning) → h.count ≡ 0 → h.diffused ≡ 0
+pub at_top : (h : Halftoning) → h.count ≡ 0 → h.diffused ≡ 0 → h.grain ≡ grain_of h.profile h.grain.grain
     → ((i t n : ℕ) → top_of (edges_of h.top i) t n ≡ pos 0) → ((i y x : ℕ) → (dots_in h.dots).dot i y x ≡ false)
     → StandsFor h []
-at_top h none first zeros blank =
+at_top h none first own zeros blank =
     let held_none : 0 ≡ held h = omega (arith, none, first) in
     record {
       count = sym none;
+      grain = own;
       inks = λ i ink more is.
           let k : Table = table_of h.kernel in
-          let p : Plane = plane_of h ink more in
+          let p : InkPlanes = planes_of h ink more in
           let top : Errors → Type 0 = λ e. IsBelow (edges_of h.top i) e in
           let start : IsUpTo k p i 0 0 (dots_in h.dots) h.top h.slab = record {
             dots = λ y x low across. absurd (omega arith);
-            errors_are = λ some t n two. above k p t n two ∙ sym (zeros i t n);
+            errors_are = λ some t n two. above k p.grained t n two ∙ sym (zeros i t n);
             amounts = λ y x low across. absurd (omega arith);
           } in
           let D : ℕ → Type 0 = λ n. IsUpTo k p i n 0 (dots_in h.dots) h.top h.slab in
@@ -238,7 +280,7 @@ pub whole_page : (h : Halftoning) (lines : List (List ℕ)) (t : DotTable) → S
     → HasRoom h.form h.profile (dots_in h.dots) → HasSizeOf h.dots.planes t
     → ((i y x : ℕ) → i < t.inks → y < t.rows → x < t.width → dot t i y x ≡ (dots_in h.dots).dot i y x)
     → HasDots h.profile (halftone (record { form = h.form; lines = lines })
-    h.profile (table_of h.kernel)) t.width t.rows t.inks (dot t)
+    h.profile (screening_of h.kernel h.grain.grain)) t.width t.rows t.inks (dot t)
 whole_page h lines t s all room size same = record {
   width_is = size.width ∙ room.width;
   rows_is = size.rows ∙ room.rows;
@@ -246,7 +288,7 @@ whole_page h lines t s all room size same = record {
   dots = λ i y x ink is low inside.
       let up = s.inks i ink [] is in
       let Q : List (List ℕ) → Type 0 = λ ls. (dots_in h.dots).dot i y x
-      ≡ on (table_of h.kernel) (plane_of h ink ls) (errors (table_of h.kernel) (plane_of h ink ls) no_top) y x in
+      ≡ on (table_of h.kernel) (planes_of h ink ls).grained (errors (table_of h.kernel) (planes_of h ink ls).grained no_top) y x in
       same i y x (omega (arith, size.inks, room.inks, slice_get_within (inks_of h.profile.inks) i ink is))
       (omega (arith, size.rows, room.rows, low)) (omega (arith, size.width, room.width, inside))
       ∙ subst Q (append-nil lines) (up.dots y x (omega (arith, all)) inside);

@@ -15,7 +15,7 @@ use Rattle.tile_edges.proofs.TopLaws.{bottoms_are_top}
 use Rattle.tile_edges.specs.Tops.{IsBelow}
 use Rattle.tile_lanes.specs.Done.{plane_of, window_of}
 use Rattle.tile_shape.specs.Geometry.{bands_of}
-use Rattle.page_halftoner.specs.Halftones.{IsUpTo}
+use Rattle.page_halftoner.specs.Halftones.{InkPlanes, IsUpTo}
 
 -- two planes of one size have the same amounts
 record IsSame (p q : Plane) : Type 0 where
@@ -46,26 +46,32 @@ same_dots k p q e y x same low across =
     ∙ ap (λ a. inside p y x && is_dot (v a)) (same.amounts y x low across)
 
 -- A row is put after the held rows.
-pub row_more : (k : Table) (p : Plane) (i d n : ℕ) (planes : Dots) (top : List (List (List ℤ))) (old new : AmountTable)
+pub row_more : (k : Table) (p : InkPlanes) (i d n : ℕ) (planes : Dots) (top : List (List (List ℤ))) (old new : AmountTable)
     → IsUpTo k p i d n planes top old
-    → ((x : ℕ) → x < p.width → amount new i n x ≡ p.amount (d + n) x)
-    → ((r x : ℕ) → r < n → x < p.width → amount new i r x ≡ amount old i r x) → IsUpTo k p i d (n + 1) planes top new
+    → ((x : ℕ) → x < p.plain.width → amount new i n x ≡ p.plain.amount (d + n) x)
+    → ((r x : ℕ) → r < n → x < p.plain.width → amount new i r x ≡ amount old i r x)
+    → IsUpTo k p i d (n + 1) planes top new
 row_more k p i d n planes top old new up are above = record {
   dots = up.dots;
   errors_are = up.errors_are;
   amounts = λ y x below across. elim (cases_eq y n) [
-    | inl here ↦ ap (λ m. amount new i m x) here ∙ are x across ∙ ap (λ m. p.amount (d + m) x) (sym here)
+    | inl here ↦ ap (λ m. amount new i m x) here ∙ are x across ∙ ap (λ m. p.plain.amount (d + m) x) (sym here)
     | inr other ↦ above y x (omega arith) across ∙ up.amounts y x (omega arith) across
   ];
 }
 
--- A slab is diffused: its rows are rows of the plane, below the errors of the rows before them.
-pub slab_more : (k : Table) (p : Plane) (i d : ℕ) (rows rows' : AmountTable) (top bottom : List (List (List ℤ))) (old new : Dots)
+-- A slab is diffused: its rows are rows of the plane with grain, below the errors of the rows before them.
+pub slab_more : (k : Table) (planes : InkPlanes) (i d n : ℕ) (held rows rows' : AmountTable)
+    (top bottom : List (List (List ℤ))) (old new : Dots)
     → DiffusesSlab k rows top bottom d old new
-    → IsUpTo k p i d rows.rows old top rows → i < rows.inks → rows.width ≡ p.width → 1 ≤ rows.rows
-    → d + rows.rows ≤ p.height → old.rows ≡ p.height → (d + rows.rows < p.height → rows.rows % 32 ≡ 0)
-    → IsUpTo k p i (d + rows.rows) 0 new bottom rows'
-slab_more k p i d rows rows' top bottom old new done up ink wide some low tall whole =
+    → IsUpTo k planes i d n old top held
+    → ((y x : ℕ) → y < rows.rows → x < planes.grained.width → amount rows i y x ≡ planes.grained.amount (d + y) x)
+    → i < rows.inks → rows.width ≡ planes.grained.width → 1 ≤ rows.rows
+    → d + rows.rows ≤ planes.grained.height → old.rows ≡ planes.grained.height
+    → (d + rows.rows < planes.grained.height → rows.rows % 32 ≡ 0)
+    → IsUpTo k planes i (d + rows.rows) 0 new bottom rows'
+slab_more k planes i d n held rows rows' top bottom old new done up grained ink wide some low tall whole =
+    let p : Plane = planes.grained in
     let e : Errors = errors k p no_top in
     let h : ℕ = rows.rows in
     let q : Plane = plane_of rows i in
@@ -74,7 +80,7 @@ slab_more k p i d rows rows' top bottom old new done up ink wide some low tall w
     let g : Errors = errors k (cut h behind) f in
     let g_is : (y : ℕ) → y < h + 2 → g y ≡ e (d + y) = λ y few. first_rows k behind f h (omega arith) y few ∙ slab k p no_top d y in
     let same : IsSame (cut h behind) q =
-    record { width = wide; height = refl; amounts = λ y x below across. up.amounts y x below across } in
+    record { width = wide; height = refl; amounts = λ y x below across. grained y x below across } in
     let solves : Solves k q g = same_solves k (cut h behind) q g same (errors_solve k (cut h behind) f) in
     let below : IsBelow (edges_of top i) g = λ t n two. ap (λ row. row n) (g_is t (omega arith)) ∙ up.errors_are (omega arith) t n two in
     let are : AreSlabErrors k rows top i g = record { ink = ink; solves = solves; below = below } in

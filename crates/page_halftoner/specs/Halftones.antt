@@ -7,8 +7,12 @@ use Rattle.dot_planes.specs.Tables.{AmountTable, HasSizeAs, amount}
 use Rattle.printer_definitions.specs.Inks.{inks_of}
 use Rattle.printer_definitions.specs.declared.inks.Ink.{Ink}
 use Rattle.printer_definitions.specs.Printer.{Printer}
+use Rattle.pwg_definitions.specs.Stream.{Page}
 use Rattle.pwg_definitions.specs.declared.pages.PageForm.{PageForm}
+use Rattle.grained_rows.specs.Grained.{grain_of}
+use Rattle.grained_rows.specs.declared.grain.InkGrain.{InkGrain}
 use Rattle.separation_definitions.specs.Amounts.{ink_plane}
+use Rattle.separation_definitions.specs.Grain.{grained_plane}
 use Rattle.separation_definitions.specs.Windows.{window_of}
 use Rattle.separation_definitions.specs.declared.window.Window.{Window}
 use Rattle.tile_border.specs.Tops.{edges_of}
@@ -19,13 +23,14 @@ use Rattle.ink_separation.specs.Separated.{HasLine}
 use Rattle.ink_separation.specs.Separators.{IsSeparatorOf}
 use Rattle.raw_rows.specs.declared.kept.RawRows.{RawRows}
 
--- A page that is being halftoned: its profile, form and kernel, how many lines have come, how many rows of the window
--- are diffused, the dots so far, the bottom edges of the last diffused rows, the amounts of the rows after them, and
--- whether memory ran out.
+-- A page that is being halftoned: its profile, form, kernel and grain, how many lines have come, how many rows of the
+-- window are diffused, the dots so far, the bottom edges of the last diffused rows, the amounts of the rows after them,
+-- and whether memory ran out.
 pub record Halftoning : Type 0 where
   pub profile : Printer
   pub form : PageForm
   pub kernel : Kernel
+  pub grain : InkGrain
   pub count : ℕ
   pub diffused : ℕ
   pub dots : SoFar
@@ -42,10 +47,11 @@ pub record Filling : Type 0 where
   pub first : ℕ
   pub slab : AmountTable
 
--- The rows of a page that are diffused: the kernel, the dots so far, the bottom edges of the last diffused rows, and
--- whether memory ran out.
+-- The rows of a page that are diffused: the kernel, the grain, the dots so far, the bottom edges of the last diffused
+-- rows, and whether memory ran out.
 pub record Diffusing : Type 0 where
   pub kernel : Kernel
+  pub grain : InkGrain
   pub dots : SoFar
   pub top : List (List (List ℤ))
   pub failed : Bool
@@ -56,6 +62,7 @@ joined f d = record {
   profile = f.profile;
   form = f.form;
   kernel = d.kernel;
+  grain = d.grain;
   count = f.count;
   diffused = f.first;
   dots = d.dots;
@@ -75,26 +82,35 @@ rows_done w count = min (count - w.top) w.height
 abbrev pub held : Halftoning → ℕ
 held h = rows_done (window h) h.count - h.diffused
 
--- the amounts of an ink over the window, on a page with these lines
-abbrev pub plane_of : Halftoning → Ink → List (List ℕ) → Plane
-plane_of h ink lines = ink_plane (record { form = h.form; lines = lines }) h.profile ink
+-- The amounts of an ink over the window: as the pixels give them, and with grain.
+pub record InkPlanes : Type 0 where
+  pub plain : Plane
+  pub grained : Plane
 
--- An ink of a plane, of which the first rows are diffused and the next ones are held.
-pub record IsUpTo (k : Table) (p : Plane) (i diffused held : ℕ) (t : Dots)
+-- those on a page with these lines
+abbrev pub planes_of : Halftoning → Ink → List (List ℕ) → InkPlanes
+planes_of h ink lines =
+    let page : Page = record { form = h.form; lines = lines } in
+    record { plain = ink_plane page h.profile ink; grained = grained_plane page h.profile h.grain.grain ink }
+
+-- An ink of a page, of which the first rows are diffused and the next ones are held.
+pub record IsUpTo (k : Table) (p : InkPlanes) (i diffused held : ℕ) (t : Dots)
     (top : List (List (List ℤ))) (slab : AmountTable) : Type 0 where
   -- the dots of the diffused rows
-  pub dots : (y x : ℕ) → y < diffused → x < p.width → t.dot i y x ≡ on k p (errors k p no_top) y x
+  pub dots : (y x : ℕ) → y < diffused → x < p.grained.width → t.dot i y x ≡ on k p.grained (errors k p.grained no_top) y x
   -- while rows are left, the top has the errors of the last two diffused rows, 0 above the first
-  pub errors_are : diffused < p.height → IsBelow (edges_of top i) (λ t. errors k p no_top (diffused + t))
-  -- the amounts of the held rows
-  pub amounts : (y x : ℕ) → y < held → x < p.width → amount slab i y x ≡ p.amount (diffused + y) x
+  pub errors_are : diffused < p.grained.height → IsBelow (edges_of top i) (λ t. errors k p.grained no_top (diffused + t))
+  -- the amounts of the held rows, which have no grain yet
+  pub amounts : (y x : ℕ) → y < held → x < p.plain.width → amount slab i y x ≡ p.plain.amount (diffused + y) x
 
 -- The halftoning stands for the lines so far: whatever lines follow, each ink's dots, errors and amounts are those of
--- the page. At most 256 rows are held, and the rows of the planes after the diffused ones have no dots.
+-- the page. The grain is that of the profile's inks. At most 256 rows are held, and the rows of the planes after the
+-- diffused ones have no dots.
 pub record StandsFor (h : Halftoning) (lines : List (List ℕ)) : Type 0 where
   pub count : length lines ≡ h.count
+  pub grain : h.grain ≡ grain_of h.profile h.grain.grain
   pub inks : (i : ℕ) (ink : Ink) (more : List (List ℕ)) → slice_get (inks_of h.profile.inks) i ≡ Some ink
-      → IsUpTo (table_of h.kernel) (plane_of h ink (lines ++ more)) i h.diffused (held h) (dots_in h.dots) h.top h.slab
+      → IsUpTo (table_of h.kernel) (planes_of h ink (lines ++ more)) i h.diffused (held h) (dots_in h.dots) h.top h.slab
   pub few : held h ≤ 256
   pub blank : (i y x : ℕ) → h.diffused ≤ y → y < h.dots.planes.rows → (dots_in h.dots).dot i y x ≡ false
 
@@ -156,8 +172,9 @@ pub record HasRoom (form : PageForm) (p : Printer) (t : Dots) : Type 0 where
   pub rows : t.rows ≡ (window_of form p).height
   pub inks : t.inks ≡ length (inks_of p.inks)
 
--- the same printer, form and kernel
+-- the same printer, form, kernel and grain
 pub record IsSamePage (old new : Halftoning) : Type 0 where
   pub profile : new.profile ≡ old.profile
   pub form : new.form ≡ old.form
   pub kernel : new.kernel ≡ old.kernel
+  pub grain : new.grain ≡ old.grain

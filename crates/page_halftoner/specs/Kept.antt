@@ -1,5 +1,6 @@
 -- The invariants of a halftoner and of its parts.
-use Rattle.std.specs.Prelude.{◌≡◌, ℤ, ◌≤◌, Bool, true, false, IsOk, List, [], Option, Some, None}
+use Rattle.std.specs.Prelude.{◌≡◌, ℤ, ◌≤◌, Bool, true, false, IsOk, List, [], length, Option, Some, None}
+use Rattle.printer_definitions.specs.Inks.{inks_of}
 use Rattle.printer_profile.specs.Validity.{check}
 use Rattle.pwg_definitions.specs.Header.{IsWanted}
 use Rattle.separation_definitions.specs.Windows.{wanted_by, window_of}
@@ -24,10 +25,17 @@ is_missing None = true
 is_missing (Some top) = false
 
 abbrev pub diffusing : DiffuserInside → Diffusing
-diffusing d = record { kernel = d.kernel; dots = d.dots; top = edges_in d.top; failed = is_missing d.top }
+diffusing d = record {
+  kernel = d.kernel;
+  grain = d.grain;
+  dots = d.dots;
+  top = edges_in d.top;
+  failed = is_missing d.top;
+}
 
--- the top, where there is one, is as wide as the planes, and has their inks
-pub record HasTop (d : DiffuserInside) : Type 0 where
+-- The planes have the inks of the grain, and the top, where there is one, is as wide as the planes, and has their inks.
+pub record IsDiffusing (d : DiffuserInside) : Type 0 where
+  pub inks : d.dots.planes.inks ≡ length (inks_of d.grain.inks)
   pub top_is : (top : List (List (List ℤ))) → d.top ≡ Some top → IsTopOf d.dots.planes.width d.dots.planes.inks top
 
 abbrev pub filling : Inside → Filling

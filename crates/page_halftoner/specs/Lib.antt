@@ -1,3 +1,4 @@
+pub mod Screenings
 pub mod Halftones
 pub mod Slabs
 pub mod Kept

@@ -1,6 +1,7 @@
 //! The rows of a page that are diffused, slab by slab.
 ghost use Rattle.diffusion_kernel.specs.Tables.{table_of};
 ghost use Rattle.dot_planes.specs.Tables.{HasSizeOf, dot};
+ghost use Rattle.grained_rows.specs.Grained.{grain_of, grained_table};
 ghost use Rattle.page_halftoner.specs.Halftones.{HasRoom};
 ghost use Rattle.printer_profile.specs.Validity.{check};
 ghost use Rattle.pwg_definitions.specs.Header.{IsWanted};
@@ -16,6 +17,7 @@ use crate::slabs::first_top;
 use base_definitions::Memory;
 use diffusion_kernel::Kernel;
 use dot_planes::{Planes, TileRows};
+use grained_rows::{GrainedRows, InkGrain};
 use printer_profile::{PageForm, Profile};
 use std::alloc::Global;
 use std::marker::Model;
@@ -24,12 +26,13 @@ use tile_border::TopEdges;
 use wavefront_team::{DotsSoFar, diffuse_beside};
 use worker_team::{Gate, Team};
 
-/// The dots of a page's window so far. Contracts see the kernel, the dots, the bottom edges of the last diffused
-/// rows, and whether a call answered `Memory`.
+/// The dots of a page's window so far. Contracts see the kernel, the grain, the dots, the bottom edges of the last
+/// diffused rows, and whether a call answered `Memory`.
 #[derive(Drop)]
 pub struct Diffuser {
     alloc: Global,
     kernel: Kernel,
+    grain: InkGrain,
     /// The errors above the next rows; `None` once a call has answered `Memory`.
     top: Option<TopEdges>,
     dots: DotsSoFar,
@@ -40,19 +43,26 @@ impl Model for Diffuser {
 
     ghost Value = { Diffusing };
 
-    ghost use Rattle.page_halftoner.specs.Kept.{HasTop, diffusing};
+    ghost use Rattle.page_halftoner.specs.Kept.{IsDiffusing, diffusing};
 
     ghost view = { diffusing };
 
-    ghost invariant = { HasTop };
+    ghost invariant = { IsDiffusing };
 }
 
 impl Diffuser {
     /// Begins the window of a page, and takes the memory of its dots and of the errors above it.
-    pub fn begin(alloc: Global, p: &Profile, f: PageForm, k: Kernel) -> Result<Diffuser, Memory>
+    pub fn begin(
+        alloc: Global,
+        p: &Profile,
+        f: PageForm,
+        k: Kernel,
+        grain: u8,
+    ) -> Result<Diffuser, Memory>
         requires checked { IsOk (check p.now) }
         requires wanted { IsWanted (wanted_by p.now) f }
         ensures kernel { IfOk result (λ d. d.kernel ≡ k) }
+        ensures grain { IfOk result (λ d. d.grain ≡ grain_of p.now grain) }
         ensures room { IfOk result (λ d. HasRoom f p.now (dots_in d.dots)) }
         ensures blank { IfOk result (λ d. (i y x : ℕ) → (dots_in d.dots).dot i y x ≡ false) }
         ensures top { IfOk result (λ d. (i t n : ℕ) → top_of (edges_of d.top i) t n ≡ pos 0) }
@@ -65,6 +75,7 @@ impl Diffuser {
         Ok(Diffuser {
             alloc,
             kernel: k,
+            grain: InkGrain::make(p, grain),
             top: Some(top),
             dots: DotsSoFar::of(planes),
         })
@@ -77,7 +88,7 @@ impl Diffuser {
         self.top.is_none()
     }
 
-    /// Diffuses the slab that begins at row `first` by the team, and does the errand beside its workers
+    /// Diffuses the slab that begins at row `first` by the team, with grain, and does the errand beside its workers
     /// (`wavefront_team::diffuse_beside`). `Memory` comes before the errand is begun, and at each later call.
     pub fn diffuse_beside<
         R: Threads + Sync,
@@ -91,9 +102,10 @@ impl Diffuser {
         requires rows { first + (A.table slab.now).rows ≤ self.old.dots.planes.rows }
         requires errand { F.pre errand.old }
         ensures kernel { self.new.kernel ≡ self.old.kernel }
+        ensures grain { self.new.grain ≡ self.old.grain }
         ensures size { IsSameSize (dots_in self.old.dots) (dots_in self.new.dots) }
-        ensures slab { IfOk result (λ done. DiffusesSlab (table_of self.old.kernel) (A.table slab.now)
-            self.old.top self.new.top first (dots_in self.old.dots) (dots_in self.new.dots)) }
+        ensures slab { IfOk result (λ done. DiffusesSlab (table_of self.old.kernel)
+            (grained_table self.old.grain first (A.table slab.now)) self.old.top self.new.top first (dots_in self.old.dots) (dots_in self.new.dots)) }
         ensures errand { IfOk result (λ done. F.step errand.old done errand.new) }
         ensures working { OnOk result (self.new.failed ≡ false) }
         ensures failed { OnErr result (self.new.failed ≡ true) }
@@ -104,8 +116,9 @@ impl Diffuser {
             return Err(Memory);
         };
         let (alloc, kernel) = (self.alloc, self.kernel);
+        let rows = GrainedRows::over(slab, self.grain, first);
         let out = &mut self.dots;
-        let (bottom, done) = diffuse_beside(team, alloc, slab, kernel, top, out, first, errand)?;
+        let (bottom, done) = diffuse_beside(team, alloc, &rows, kernel, top, out, first, errand)?;
         self.top = Some(bottom);
         Ok(done)
     }

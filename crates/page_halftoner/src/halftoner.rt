@@ -1,8 +1,9 @@
 //! A page that is halftoned as its lines come.
-ghost use Rattle.diffusion_kernel.specs.Tables.{table_of};
 ghost use Rattle.dot_planes.specs.Tables.{dot};
+ghost use Rattle.grained_rows.specs.Grained.{grain_of};
 ghost use Rattle.page_definitions.specs.Dots.{HasDots, halftone};
 ghost use Rattle.page_halftoner.specs.Halftones.{IsSamePage, StandsFor};
+ghost use Rattle.page_halftoner.specs.Screenings.{screening_of};
 ghost use Rattle.printer_profile.specs.Validity.{check};
 ghost use Rattle.pwg_definitions.specs.Header.{IsWanted};
 ghost use Rattle.separation_definitions.specs.Windows.{wanted_by};
@@ -20,8 +21,8 @@ use std::marker::Model;
 use std::thread::Threads;
 use worker_team::{Gate, Team};
 
-/// A page that is halftoned line by line. Contracts see the profile, the form, the kernel, the number of lines so
-/// far, which lists of lines it stands for, and whether a call answered `Memory`.
+/// A page that is halftoned line by line. Contracts see the profile, the form, the kernel, the grain, the number of
+/// lines so far, which lists of lines it stands for, and whether a call answered `Memory`.
 ///
 /// Beside the planes of dots it keeps the lines of one slab: at most 256 rows of the window in whole bands, or those
 /// that are left. When the slab is full it is diffused, below the errors of the slab above. Who reads lines while slabs
@@ -46,16 +47,23 @@ impl Model for Halftoner {
 
 impl Halftoner {
     /// Begins a page, and takes the memory that the page itself needs.
-    pub fn begin(alloc: Global, p: &Profile, f: PageForm, k: Kernel) -> Result<Halftoner, Memory>
+    pub fn begin(
+        alloc: Global,
+        p: &Profile,
+        f: PageForm,
+        k: Kernel,
+        grain: u8,
+    ) -> Result<Halftoner, Memory>
         requires checked { IsOk (check p.now) }
         requires wanted { IsWanted (wanted_by p.now) f }
         ensures page { IfOk result (λ h. (h.profile ≡ p.now) × (h.form ≡ f) × (h.kernel ≡ k)) }
+        ensures grain { IfOk result (λ h. h.grain ≡ grain_of p.now grain) }
         ensures count { IfOk result (λ h. h.count ≡ 0) }
         ensures stands { IfOk result (λ h. StandsFor h []) }
         ensures working { IfOk result (λ h. h.failed ≡ false) }
     {
         let filler = Filler::begin(alloc, p, f)?;
-        let diffuser = Diffuser::begin(alloc, p, f, k)?;
+        let diffuser = Diffuser::begin(alloc, p, f, k, grain)?;
         Ok(Halftoner { filler, diffuser })
     }
 
@@ -93,7 +101,7 @@ impl Halftoner {
         requires working { self.failed ≡ false }
         ensures { (lines : List (List ℕ)) → StandsFor self lines
             → HasDots self.profile (halftone (record { form = self.form; lines = lines })
-            self.profile (table_of self.kernel)) result.width result.rows result.inks (dot result) }
+            self.profile (screening_of self.kernel self.grain.grain)) result.width result.rows result.inks (dot result) }
     {
         self.diffuser.finish()
     }

@@ -1,7 +1,7 @@
 -- The bytes of pages print the pages.
 use Rattle.std.proofs.Common.{◌≡◌, ℕ, ◌*◌, inr, List, [], ◌∷◌, ◌++◌, refl, sym, ◌∙◌, ap, None, flat_map, subst}
 use Rattle.printer_definitions.specs.Printer.{Printer, row_units}
-use Rattle.diffusion_definitions.specs.Diffusion.{Table}
+use Rattle.page_definitions.specs.Dots.{Screening}
 use Rattle.escp2_definitions.specs.Commands.{CommandList, commands}
 use Rattle.escp2_definitions.specs.Commands.ListEnd.{Whole}
 use Rattle.escp2_definitions.specs.Machine.{Dot, Printed, Sheet, execute, execute_from, start, with_sheets}
@@ -30,19 +30,19 @@ pub page-coded : IsCoding page_coding
 page-coded = inr (refl, least-codes)
 
 -- the window of a page has a size that can be printed
-pub page-sized : (p : Printer) (k : Table) (page : Page)
+pub page-sized : (p : Printer) (k : Screening) (page : Page)
     → CanPrint p → IsPage (wanted_by p) page → Sized p (halftone page p k) page.form.height
 page-sized p k page can is = form-sized p (halftone page p k) page.form can is.wanted refl refl
 
 -- ---- the jobs of pages
 
 -- the commands of a page
-abbrev page_job : Coding → (Halftone → Strokes) → Printer → Table → Page → List Spoken
+abbrev page_job : Coding → (Halftone → Strokes) → Printer → Screening → Page → List Spoken
 page_job coding strokes p k page =
     let h : Halftone = halftone page p k in page_commands p h.width h.height coding.c (page.form.height * row_units p) (strokes h)
 
 -- the commands of pages are spelled by their bytes
-jobs-spoken : (coding : Coding) (strokes : Halftone → Strokes) (p : Printer) (k : Table) (pages : List Page) → CanPrint p → IsCoding coding
+jobs-spoken : (coding : Coding) (strokes : Halftone → Strokes) (p : Printer) (k : Screening) (pages : List Page) → CanPrint p → IsCoding coding
     → FirePages p k strokes → ArePages p pages → AllSpoken coding (flat_map (page_job coding strokes p k) pages)
 jobs-spoken coding strokes p k [] can is_coding fire are = tt
 jobs-spoken coding strokes p k (page ∷ pages) can is_coding fire are =
@@ -52,7 +52,7 @@ jobs-spoken coding strokes p k (page ∷ pages) can is_coding fire are =
     (jobs-spoken coding strokes p k pages can is_coding fire are.1)
 
 -- the bytes of pages are those of their commands
-bytes-are : (coding : Coding) (strokes : Halftone → Strokes) (p : Printer) (k : Table) (pages : List Page)
+bytes-are : (coding : Coding) (strokes : Halftone → Strokes) (p : Printer) (k : Screening) (pages : List Page)
     → flat_map (λ page. stroked_bytes coding strokes page p k) pages ≡ bytes_of coding.code (flat_map (page_job coding strokes p k) pages)
 bytes-are coding strokes p k [] = refl
 bytes-are coding strokes p k (page ∷ pages) =
@@ -62,7 +62,7 @@ bytes-are coding strokes p k (page ∷ pages) =
 -- ---- the run
 
 -- the jobs of pages give their sheets, one after another
-pages-run : (coding : Coding) (strokes : Halftone → Strokes) (p : Printer) (k : Table) (pages : List Page) (at : ℕ)
+pages-run : (coding : Coding) (strokes : Halftone → Strokes) (p : Printer) (k : Screening) (pages : List Page) (at : ℕ)
     → CanPrint p → IsCoding coding
     → FirePages p k strokes → ArePages p pages
     → (sheets : List Sheet) × AreSheets p k pages sheets
@@ -84,7 +84,7 @@ pages-run coding strokes p k (page ∷ pages) at can is_coding fire are =
     (this.0 ∷ others.0, (first, others.1), this.3 ∙ ap (with_sheets (this.0 ∷ [])) others.2)
 
 -- The bytes of pages that are printed by strokes, one after another, print the pages.
-pub stroked-print : (coding : Coding) (strokes : Halftone → Strokes) (p : Printer) (k : Table) (pages : List Page)
+pub stroked-print : (coding : Coding) (strokes : Halftone → Strokes) (p : Printer) (k : Screening) (pages : List Page)
     → CanPrint p → IsCoding coding
     → FirePages p k strokes → ArePages p pages → Prints p k pages (flat_map (λ page. stroked_bytes coding strokes page p k) pages)
 stroked-print coding strokes p k pages can is_coding fire are =
@@ -104,7 +104,7 @@ stroked-print coding strokes p k pages can is_coding fire are =
     }
 
 -- The bytes of pages, one after another, print them.
-pub pages-print : (p : Printer) (k : Table) (pages : List Page) → CanPrint p → ArePages p pages
+pub pages-print : (p : Printer) (k : Screening) (pages : List Page) → CanPrint p → ArePages p pages
     → Prints p k pages (flat_map (λ page. page_bytes page p k) pages)
 unfolding page_bytes halftone_bytes
 pages-print p k pages can are = stroked-print page_coding

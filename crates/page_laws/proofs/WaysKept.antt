@@ -2,7 +2,7 @@
 use Rattle.std.proofs.Common.{◌≡◌, ℕ, ◌*◌, ◌≤◌, List, [], ◌∷◌, length, flat_map, refl, sym, ap, subst, arith}
 use Rattle.std.proofs.lemmas.List.{length-map}
 use Rattle.base_definitions.specs.Counting.{count_from}
-use Rattle.diffusion_definitions.specs.Diffusion.{Table}
+use Rattle.page_definitions.specs.Dots.{Screening}
 use Rattle.escp2_definitions.specs.Commands.{Entry, commands}
 use Rattle.escp2_definitions.specs.Rasters.{ink_rasters}
 use Rattle.page_definitions.specs.Dots.{Halftone, dots_wanted, halftone}
@@ -113,7 +113,7 @@ way-keeps way p h tall can go size = record {
 -- ---- pages
 
 -- The bytes of pages, one after another, print them, whatever the way.
-pub ways-print : (way : Way) (p : Printer) (k : Table) (pages : List Page) → CanPrint p → CanGo way p → ArePages p pages
+pub ways-print : (way : Way) (p : Printer) (k : Screening) (pages : List Page) → CanPrint p → CanGo way p → ArePages p pages
     → Prints p k pages (flat_map (λ page. page_bytes_by way page p k) pages)
 unfolding page_bytes_by page_bytes shingled_bytes healed_bytes
 ways-print Woven p k pages can go are = pages-print p k pages can are
@@ -123,7 +123,7 @@ ways-print (Healed dead) p k pages can go are =
     stroked-print page_coding (healed dead.items p) p k pages can page-coded (λ page is. healed-fires dead.items p (halftone page p k) can go.1) are
 
 -- The jobs of pages keep to their way.
-pub ways-keep : (way : Way) (p : Printer) (k : Table) (pages : List Page) → CanPrint p → CanGo way p → ArePages p pages → KeepTo way p k pages
+pub ways-keep : (way : Way) (p : Printer) (k : Screening) (pages : List Page) → CanPrint p → CanGo way p → ArePages p pages → KeepTo way p k pages
 unfolding page_bytes_by
 ways-keep way p k [] can go are = tt
 ways-keep way p k (page ∷ pages) can go are =

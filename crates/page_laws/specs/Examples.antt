@@ -6,7 +6,9 @@ use Rattle.printer_definitions.specs.declared.inks.InkSet.TheVariants.{Cmyk}
 use Rattle.printer_definitions.specs.Inks.{inks_of}
 use Rattle.printer_definitions.specs.Printer.{Printer, tiny1}
 use Rattle.separation_definitions.specs.Amounts.{amount}
+use Rattle.diffusion_definitions.specs.Diffusion.{floyd}
 use Rattle.escp2_definitions.specs.Machine.{Dot}
+use Rattle.page_definitions.specs.Dots.{Screening}
 use Rattle.weave_definitions.specs.Weave.{Firing}
 use Rattle.pwg_definitions.specs.declared.pages.Kind.TheVariants.{Gray8, Rgb8}
 use Rattle.pwg_definitions.specs.declared.pages.PageForm.{PageForm}
@@ -36,6 +38,12 @@ fine_across = record tiny1 { hdpi = 720 }
 
 abbrev pub fine_down : Printer
 fine_down = record tiny1 { vdpi = 720 }
+
+-- ---- screenings
+
+-- by the table of Floyd and Steinberg, without grain
+abbrev pub by_floyd : Screening
+by_floyd = record { table = floyd; grain = 0 }
 
 -- ---- pages
 

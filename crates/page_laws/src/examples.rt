@@ -3,7 +3,6 @@
 #![tactic(auto, unfolding(diffusion_definitions::specs::Diffusion::errors, diffusion_definitions::specs::Diffusion::row_errors, diffusion_definitions::specs::Diffusion::value, escp2_definitions::specs::Commands::command_at, escp2_definitions::specs::Commands::commands_from, escp2_definitions::specs::Least::cost_from, escp2_definitions::specs::Least::costs, escp2_definitions::specs::Least::equal_at, escp2_definitions::specs::Least::least, escp2_definitions::specs::Least::least_packet, escp2_definitions::specs::Least::least_row, escp2_definitions::specs::Least::literals, escp2_definitions::specs::Least::packets_at, escp2_definitions::specs::Least::packets_from, escp2_definitions::specs::Least::runs, escp2_definitions::specs::Machine::execute_from, escp2_definitions::specs::Machine::rows_dots, escp2_definitions::specs::RowCode::row_at, escp2_definitions::specs::RowCode::rows_at, page_definitions::specs::PageBytes::halftone_bytes, page_definitions::specs::PageBytes::page_bytes))]
 
 ghost use Rattle.base_definitions.specs.Limits.{most_columns, most_rows};
-ghost use Rattle.diffusion_definitions.specs.Diffusion.{floyd};
 ghost use Rattle.escp2_definitions.specs.Commands.{commands};
 ghost use Rattle.escp2_definitions.specs.Machine.{execute};
 ghost use Rattle.escp2_definitions.specs.Rasters.{ink_rasters};
@@ -11,8 +10,9 @@ ghost use Rattle.escp2_laws.specs.Examples.{listing, three_nozzles};
 ghost use Rattle.page_definitions.specs.Dots.{wanted};
 ghost use Rattle.page_definitions.specs.PageBytes.{page_bytes};
 ghost use Rattle.page_laws.specs.Examples.{amounts_of, amounts_of_128, black_column, black_column_bytes, black_dot};
-ghost use Rattle.page_laws.specs.Examples.{black_line, black_page, black_page_bytes, black_pixel_bytes, fine_across};
-ghost use Rattle.page_laws.specs.Examples.{fine_across_bytes, fine_down, fine_down_bytes, fires_row, grey, pixel};
+ghost use Rattle.page_laws.specs.Examples.{black_line, black_page, black_page_bytes, black_pixel_bytes, by_floyd};
+ghost use Rattle.page_laws.specs.Examples.{fine_across, fine_across_bytes, fine_down, fine_down_bytes, fires_row};
+ghost use Rattle.page_laws.specs.Examples.{grey, pixel};
 ghost use Rattle.page_laws.specs.Examples.{red_pixel_bytes, six_rows, small_page, small_page_bytes, white_page};
 ghost use Rattle.page_laws.specs.Examples.{white_page_bytes, with_black_start, with_inks, with_limits, with_margins};
 ghost use Rattle.printer_definitions.specs.Printer.{tiny1};
@@ -24,13 +24,13 @@ ghost use Rattle.weave_definitions.specs.Weave.{pass_count, passes};
 
 /// The dots of a page of four columns and two rows.
 pub fn small_page_wants_two_dots()
-    ensures { wanted small_page tiny1 floyd ≡ black_dot 10 10 ∷ black_dot 30 10 ∷ [] }
+    ensures { wanted small_page tiny1 by_floyd ≡ black_dot 10 10 ∷ black_dot 30 10 ∷ [] }
 {}
 
 /// The bytes of its job.
 pub fn small_page_has_its_bytes()
     ensures len { length small_page_bytes ≡ 70 }
-    ensures bytes { page_bytes small_page tiny1 floyd ≡ small_page_bytes }
+    ensures bytes { page_bytes small_page tiny1 by_floyd ≡ small_page_bytes }
 {}
 
 /// What the printer makes of these bytes.
@@ -44,36 +44,36 @@ pub fn small_page_is_printed()
 /// The job of a page without dots has 49 bytes.
 pub fn white_page_takes_no_stroke()
     ensures len { length white_page_bytes ≡ 49 }
-    ensures bytes { page_bytes white_page tiny1 floyd ≡ white_page_bytes }
+    ensures bytes { page_bytes white_page tiny1 by_floyd ≡ white_page_bytes }
 {}
 
 /// A black page with margins: its window, and the bytes of its job.
 pub fn black_page_with_margins()
     ensures window { window_of black_page.form with_margins ≡ record { left = 1; top = 1; width = 3; height = 1 } }
     ensures len { length black_page_bytes ≡ 63 }
-    ensures bytes { page_bytes black_page with_margins floyd ≡ black_page_bytes }
+    ensures bytes { page_bytes black_page with_margins by_floyd ≡ black_page_bytes }
 {}
 
 /// For three black rows of a column one nozzle takes three rasters.
 pub fn one_nozzle_prints_three_rasters()
     ensures len { length black_column_bytes ≡ 105 }
-    ensures bytes { page_bytes black_column tiny1 floyd ≡ black_column_bytes }
+    ensures bytes { page_bytes black_column tiny1 by_floyd ≡ black_column_bytes }
     ensures rasters { ink_rasters Black (commands black_column_bytes).entries ≡ 3 }
 {}
 
 /// Six black rows of eight columns, of which two are in the window of a head with three nozzles two rows apart: 92
 /// bytes, with two rasters.
 pub fn tiny_prints_ninety_two_bytes()
-    ensures bytes { page_bytes six_rows three_nozzles floyd ≡ listing }
+    ensures bytes { page_bytes six_rows three_nozzles by_floyd ≡ listing }
     ensures rasters { ink_rasters Black (commands listing).entries ≡ 2 }
 {}
 
 /// The inks of a pass come in the order of their set: a black pixel uses black alone, a red one magenta and yellow.
 pub fn inks_go_in_the_order_of_their_set()
     ensures black_len { length black_pixel_bytes ≡ 63 }
-    ensures black { page_bytes (pixel 0 0 0) (with_inks Cmyk) floyd ≡ black_pixel_bytes }
+    ensures black { page_bytes (pixel 0 0 0) (with_inks Cmyk) by_floyd ≡ black_pixel_bytes }
     ensures red_len { length red_pixel_bytes ≡ 77 }
-    ensures red { page_bytes (pixel 255 0 0) (with_inks Cmyk) floyd ≡ red_pixel_bytes }
+    ensures red { page_bytes (pixel 255 0 0) (with_inks Cmyk) by_floyd ≡ red_pixel_bytes }
     ensures no_black { ink_rasters Black (commands red_pixel_bytes).entries ≡ 0 }
     ensures no_cyan { ink_rasters Cyan (commands red_pixel_bytes).entries ≡ 0 }
     ensures one_magenta { ink_rasters Magenta (commands red_pixel_bytes).entries ≡ 1 }
@@ -82,12 +82,12 @@ pub fn inks_go_in_the_order_of_their_set()
 
 /// A black line at 720 dots an inch across the page or down it: the steps of its raster, and the units of its sheet.
 pub fn resolutions_differ_across_and_down()
-    ensures across_dots { wanted black_line fine_across floyd
+    ensures across_dots { wanted black_line fine_across by_floyd
         ≡ black_dot 0 0 ∷ black_dot 5 0 ∷ black_dot 10 0 ∷ black_dot 15 0 ∷ [] }
-    ensures across { page_bytes black_line fine_across floyd ≡ fine_across_bytes }
-    ensures down_dots { wanted black_line fine_down floyd
+    ensures across { page_bytes black_line fine_across by_floyd ≡ fine_across_bytes }
+    ensures down_dots { wanted black_line fine_down by_floyd
         ≡ black_dot 0 0 ∷ black_dot 10 0 ∷ black_dot 20 0 ∷ black_dot 30 0 ∷ [] }
-    ensures down { page_bytes black_line fine_down floyd ≡ fine_down_bytes }
+    ensures down { page_bytes black_line fine_down by_floyd ≡ fine_down_bytes }
 {}
 
 /// Which nozzles fire two rows, with 15 nozzles four rows apart and with three nozzles two rows apart.

@@ -1,10 +1,9 @@
 //! The laws. Each function does nothing; its contract is a law.
-ghost use Rattle.diffusion_definitions.specs.Diffusion.{Table};
 ghost use Rattle.escp2_definitions.specs.Commands.{commands};
 ghost use Rattle.escp2_definitions.specs.Machine.{Dot, is_at};
 ghost use Rattle.escp2_definitions.specs.Rasters.{ink_rasters};
 ghost use Rattle.escp2_definitions.specs.Written.{Coding, IsCoding, plain};
-ghost use Rattle.page_definitions.specs.Dots.{Halftone, HasDots, dots_wanted, wanted};
+ghost use Rattle.page_definitions.specs.Dots.{Halftone, HasDots, Screening, dots_wanted, wanted};
 ghost use Rattle.page_definitions.specs.PageBytes.{halftone_bytes, page_bytes, page_coding, weave};
 ghost use Rattle.page_definitions.specs.Printing.{GivesSheet, Prints};
 ghost use Rattle.page_definitions.specs.Strokes.{Fires, Strokes, has_dot, strokes_bytes};
@@ -22,7 +21,7 @@ ghost use Rattle.weave_definitions.specs.Weave.{pass_count};
 
 /// The dots that a page asks for are distinct.
 pub fn wanted_are_distinct()
-    ensures { (page : Page) (p : Printer) (k : Table)
+    ensures { (page : Page) (p : Printer) (k : Screening)
         → CanPrint p → (d : Dot) → count_by (is_at d) (wanted page p k) ≤ 1 }
 {}
 
@@ -49,14 +48,14 @@ pub fn rows_are_coded()
 /// The bytes of pages, one after another, are a job that prints them: a sheet for each page, with each dot that the
 /// page asks for once and no other.
 pub fn pages_are_printed()
-    ensures { (p : Printer) (k : Table) (pages : List Page) → CanPrint p → ArePages p pages
+    ensures { (p : Printer) (k : Screening) (pages : List Page) → CanPrint p → ArePages p pages
         → Prints p k pages (flat_map (λ page. page_bytes page p k) pages) }
 {}
 
 /// The same for pages that are printed by other strokes and other codes of rows: strokes that are chosen for each
 /// halftone, and that print the halftone of each page that the printer takes.
 pub fn stroked_pages_are_printed()
-    ensures { (coding : Coding) (strokes : Halftone → Strokes) (p : Printer) (k : Table) (pages : List Page)
+    ensures { (coding : Coding) (strokes : Halftone → Strokes) (p : Printer) (k : Screening) (pages : List Page)
         → CanPrint p → IsCoding coding → FirePages p k strokes → ArePages p pages
         → Prints p k pages (flat_map (λ page. stroked_bytes coding strokes page p k) pages) }
 {}

@@ -1,7 +1,7 @@
 //! The laws of the ways over a page. Each function does nothing; its contract is a law.
 #![tactic(auto)]
 
-ghost use Rattle.diffusion_definitions.specs.Diffusion.{Table};
+ghost use Rattle.page_definitions.specs.Dots.{Screening};
 ghost use Rattle.page_definitions.specs.Printing.{Prints};
 ghost use Rattle.page_definitions.specs.Ways.{CanGo, KeepTo, page_bytes_by};
 ghost use Rattle.page_definitions.specs.declared.way.Way.{Way};
@@ -13,12 +13,12 @@ ghost use Rattle.std.specs.Prelude.{List};
 
 /// The bytes of pages that are printed in a way of which the head is capable, one after another, print the pages.
 pub fn pages_are_printed_by_ways()
-    ensures { (way : Way) (p : Printer) (k : Table) (pages : List Page) → CanPrint p → CanGo way p → ArePages p pages
-        → Prints p k pages (flat_map (λ page. page_bytes_by way page p k) pages) }
+    ensures { (way : Way) (p : Printer) (s : Screening) (pages : List Page) → CanPrint p → CanGo way p → ArePages p pages
+        → Prints p s pages (flat_map (λ page. page_bytes_by way page p s) pages) }
 {}
 
 /// The jobs of pages keep to their way: no more rasters of an ink than it takes, in rows that have what they may have.
 pub fn pages_keep_to_their_way()
-    ensures { (way : Way) (p : Printer) (k : Table) (pages : List Page) → CanPrint p → CanGo way p → ArePages p pages
-        → KeepTo way p k pages }
+    ensures { (way : Way) (p : Printer) (s : Screening) (pages : List Page) → CanPrint p → CanGo way p → ArePages p pages
+        → KeepTo way p s pages }
 {}

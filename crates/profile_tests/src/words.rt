@@ -37,6 +37,7 @@ enum Said {
     /// The place of the word that names a profile, and the name.
     Profile(u32, &'static str),
     Kernel(Kernel),
+    Grain(u8),
     Workers(u8),
     Cap(u64),
     Most(u64),
@@ -52,6 +53,7 @@ fn plain_job(verb: Verb) -> Job {
         verb,
         profile_word: 0,
         kernel: Kernel::Floyd,
+        grain: 0,
         workers: 1,
         cap: None,
         most: 17_179_869_184,
@@ -72,6 +74,7 @@ fn job_of(verb: Verb, said: &[Said]) -> Result<Job, Fail> {
         match part {
             Said::Profile(word, _) => job.profile_word = word,
             Said::Kernel(kernel) => job.kernel = kernel,
+            Said::Grain(grain) => job.grain = grain,
             Said::Workers(workers) => job.workers = workers,
             Said::Cap(cap) => job.cap = Some(cap),
             Said::Most(most) => job.most = most,
@@ -110,7 +113,7 @@ fn same_job(rt: &impl Abort, alloc: Global, (line, verb, said): Line) -> Result<
 
 #[test]
 fn each_bad_word_has_its_cause(rt: HostRuntime) -> Result<(), Fail> {
-    const LINES: [(&[&str], u32, UsageCause); 11] = [
+    const LINES: [(&[&str], u32, UsageCause); 14] = [
         (&[], 1, UsageCause::NoCommand),
         (&["plot"], 1, UsageCause::UnknownCommand),
         (&["print", "workers=0"], 2, UsageCause::BadValue),
@@ -119,9 +122,16 @@ fn each_bad_word_has_its_cause(rt: HostRuntime) -> Result<(), Fail> {
             3,
             UsageCause::RepeatedKey,
         ),
+        (
+            &["print", "grain=16", "grain=33"],
+            3,
+            UsageCause::RepeatedKey,
+        ),
         (&["print", "x"], 2, UsageCause::NotKeyValue),
         (&["print", "most=1"], 2, UsageCause::UnknownKey),
         (&["profile", "kernel=fs"], 2, UsageCause::UnknownKey),
+        (&["dots", "grain=0"], 2, UsageCause::UnknownKey),
+        (&["list", "grain=0"], 2, UsageCause::UnknownKey),
         (&["profile", "dead=0"], 2, UsageCause::UnknownKey),
         (&["dots", "shingle=0"], 2, UsageCause::UnknownKey),
         (&["list", "most=17179869185"], 2, UsageCause::BadValue),
@@ -188,7 +198,7 @@ fn shingled_passes_and_dead_nozzles_are_refused_at_the_later_word(
     Ok(())
 }
 
-const JOB_LINES: [Line; 9] = [
+const JOB_LINES: [Line; 13] = [
     (
         &["print", "profile=a=b", "kernel=stucki", "workers=64"],
         Verb::Print,
@@ -198,6 +208,10 @@ const JOB_LINES: [Line; 9] = [
             Said::Workers(64),
         ],
     ),
+    (&["print", "grain=0"], Verb::Print, &[]),
+    (&["print", "grain=1"], Verb::Print, &[Said::Grain(1)]),
+    (&["print", "grain=16"], Verb::Print, &[Said::Grain(16)]),
+    (&["print", "grain=32"], Verb::Print, &[Said::Grain(32)]),
     (&["profile"], Verb::Profile, &[]),
     (&["dots", "most=10"], Verb::Dots, &[Said::Most(10)]),
     (&["list", "most=10"], Verb::List, &[Said::Most(10)]),
@@ -222,12 +236,14 @@ const JOB_LINES: [Line; 9] = [
             "pages=16",
             "seed=0",
             "dead=2",
+            "grain=32",
             "profile=c",
         ],
         Verb::Trial,
         &[
-            Said::Profile(8, "c"),
+            Said::Profile(9, "c"),
             Said::Dead(&[2]),
+            Said::Grain(32),
             Said::Made(0, 16, 8191, 15_840, Kind::Cmyk8),
         ],
     ),
@@ -241,7 +257,7 @@ fn a_line_is_read_as_a_job(rt: HostRuntime) -> Result<(), Fail> {
     Ok(())
 }
 
-const VALUES: [(&str, Option<UsageCause>); 56] = [
+const VALUES: [(&str, Option<UsageCause>); 67] = [
     ("workers=1", None),
     ("workers=64", None),
     ("workers=0", Some(UsageCause::BadValue)),
@@ -267,6 +283,17 @@ const VALUES: [(&str, Option<UsageCause>); 56] = [
     ("kernel=stucki", None),
     ("kernel=Fs", Some(UsageCause::BadValue)),
     ("kernel=", Some(UsageCause::BadValue)),
+    ("grain=0", None),
+    ("grain=1", None),
+    ("grain=16", None),
+    ("grain=32", None),
+    ("grain=33", Some(UsageCause::BadValue)),
+    ("grain=x", Some(UsageCause::BadValue)),
+    ("grain=", Some(UsageCause::BadValue)),
+    ("grain=01", Some(UsageCause::BadValue)),
+    ("grain=+1", Some(UsageCause::BadValue)),
+    ("grain=256", Some(UsageCause::BadValue)),
+    ("grain=-1", Some(UsageCause::BadValue)),
     ("shingle=0", None),
     ("shingle=1", None),
     ("dead=0", None),
@@ -335,7 +362,7 @@ fn a_profile_has_1_to_255_bytes(rt: HostRuntime) -> Result<(), Fail> {
     Ok(())
 }
 
-const TRIAL_VALUES: [(&str, Option<UsageCause>); 33] = [
+const TRIAL_VALUES: [(&str, Option<UsageCause>); 35] = [
     ("seed=0", None),
     ("seed=4294967295", None),
     ("pages=1", None),
@@ -350,6 +377,7 @@ const TRIAL_VALUES: [(&str, Option<UsageCause>); 33] = [
     ("kind=black1", None),
     ("kind=cmyk", None),
     ("kernel=jjn", None),
+    ("grain=32", None),
     ("workers=64", None),
     ("shingle=1", None),
     ("dead=254", None),
@@ -366,6 +394,7 @@ const TRIAL_VALUES: [(&str, Option<UsageCause>); 33] = [
     ("kind=grey", Some(UsageCause::BadValue)),
     ("kind=", Some(UsageCause::BadValue)),
     ("workers=65", Some(UsageCause::BadValue)),
+    ("grain=33", Some(UsageCause::BadValue)),
     ("cap=1", Some(UsageCause::UnknownKey)),
     ("most=1", Some(UsageCause::UnknownKey)),
     ("page=1", Some(UsageCause::UnknownKey)),

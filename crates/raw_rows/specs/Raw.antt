@@ -24,12 +24,14 @@ amount_in raw i y x =
     let s = raw.separator in
     amount_of (printer_in s) s.kind (pixel_at s.kind (line_in raw y) (s.window.left + x)) (ink_at s.inks i)
 
--- all amounts, ink by ink and row by row
+-- the amounts that a function gives by ink, row and column: ink by ink, row by row and from the left, as many of each
+unfoldable pub cells : (ℕ → ℕ → ℕ → ℕ) → ℕ → ℕ → ℕ → List ℕ
+cells amount inks rows width =
+    map (λ n. amount (n / width / rows) (n / width % rows) (n % width)) (count_from 0 (inks * rows * width))
+
+-- All amounts of rows. The name does not unfold by itself, so that proofs find the rows by it.
 unfoldable pub amounts_in : RawRows → List ℕ
-amounts_in raw =
-    let width = raw.separator.window.width in
-    map (λ n. amount_in raw (n / width / raw.rows) (n / width % raw.rows) (n % width))
-    (count_from 0 (length (inks_of raw.separator.inks) * raw.rows * width))
+amounts_in raw = cells (amount_in raw) (length (inks_of raw.separator.inks)) raw.rows raw.separator.window.width
 
 -- the amounts as a table
 abbrev pub table_of : RawRows → AmountTable

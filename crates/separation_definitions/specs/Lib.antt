@@ -1,3 +1,4 @@
 pub mod Windows
 pub mod Amounts
+pub mod Grain
 pub mod CanPrint

@@ -1,7 +1,10 @@
-//! What a printer makes of a page's pixels: the window on the page, and the amount of each ink at a pixel.
-//! Definitions only; `ink_separation` computes the amounts and `printer_profile` the window.
+//! What a printer makes of a page's pixels: the window on the page, the amount of each ink at a pixel, and the grain
+//! that may be put on the amounts. Definitions only; `ink_separation` computes the amounts, `grained_rows` puts the
+//! grain on, and `printer_profile` computes the window.
 #![tactic(auto)]
 
+mod grain;
 mod window;
 
+pub use grain::MOST_GRAIN;
 pub use window::Window;

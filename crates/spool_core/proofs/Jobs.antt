@@ -3,7 +3,7 @@ use Rattle.std.proofs.Common.{◌≡◌, ◌≢◌, ℕ, ◌+◌, ◌⊎◌, inl
 use Rattle.std.specs.Prelude.{◌==◌, ◌||◌}
 use Rattle.std.proofs.lemmas.List.Elements.{All-cons, All-head, All-nil, All-tail}
 use Rattle.std.proofs.lemmas.List.Sums.{sum_by-cons}
-use Rattle.diffusion_definitions.specs.Diffusion.{Table}
+use Rattle.page_definitions.specs.Dots.{Screening}
 use Rattle.driver_answer.specs.Answers.{status_of}
 use Rattle.driver_answer.specs.declared.answer.Answer.{Answer}
 use Rattle.driver_answer.specs.declared.answer.Answer.TheVariants as answer
@@ -18,20 +18,20 @@ use Rattle.spool_core.specs.Outcome.{HasPlainStatus, is_refused}
 use Rattle.spool_core.specs.Printed.{AreDone, Between, PrintsJob, PrintsJobs, PrintsStream, meters_from, out_from}
 use Rattle.spool_core.specs.declared.report.Ran.{Ran}
 
-pub one_job_more : (p : Printer) (k : Table) (jobs : List SpoolJob) (job : SpoolJob) (done : List Ran) (ran : Ran) (a m b : Between)
+pub one_job_more : (p : Printer) (k : Screening) (jobs : List SpoolJob) (job : SpoolJob) (done : List Ran) (ran : Ran) (a m b : Between)
     → PrintsJobs p k jobs done a m → PrintsJob p k job ran m b → PrintsJobs p k (jobs ++ job ∷ []) (done ++ ran ∷ []) a b
 one_job_more p k [] job [] ran a m b are one = (b, subst (λ x. PrintsJob p k job ran x b) (sym are) one, refl)
 one_job_more p k [] job (other ∷ done) ran a m b are one = absurd are
 one_job_more p k (x ∷ jobs) job [] ran a m b are one = absurd are
 one_job_more p k (x ∷ jobs) job (other ∷ done) ran a m b are one = (are.0, are.1, one_job_more p k jobs job done ran are.0 m b are.2 one)
 
-pub as_many : (p : Printer) (k : Table) (jobs : List SpoolJob) (done : List Ran) (a b : Between) → PrintsJobs p k jobs done a b → length done ≡ length jobs
+pub as_many : (p : Printer) (k : Screening) (jobs : List SpoolJob) (done : List Ran) (a b : Between) → PrintsJobs p k jobs done a b → length done ≡ length jobs
 as_many p k [] [] a b are = refl
 as_many p k (job ∷ jobs) (ran ∷ done) a b are = let more = as_many p k jobs done are.0 b are.2 in omega arith
 as_many p k jobs done a b are = absurd are
 
 -- a source that does not fail is no reason to stop
-plain_answer : (p : Printer) (k : Table) (bytes : Stream) (pages : ℕ) (a : Answer) (x y : Between) → PrintsStream p k bytes pages a x y
+plain_answer : (p : Printer) (k : Screening) (bytes : Stream) (pages : ℕ) (a : Answer) (x y : Between) → PrintsStream p k bytes pages a x y
     → status_of a ≢ 5 → (status_of a ≡ 0) ⊎ ((status_of a ≡ 3) ⊎ ((status_of a ≡ 6) ⊎ (status_of a ≡ 7)))
 plain_answer p k bytes pages answer.Done x y prints fine = inl refl
 plain_answer p k bytes pages (answer.Input page line cause) x y prints fine = inr (inl refl)
@@ -41,7 +41,7 @@ plain_answer p k bytes pages (answer.OverCap page total dots cap) x y prints fin
 plain_answer p k bytes pages answer.Memory x y prints fine = inr (inr (inr refl))
 plain_answer p k bytes pages other x y prints fine = absurd prints.printed.0
 
-plain_one : (p : Printer) (k : Table) (job : SpoolJob) (ran : Ran) (a b : Between) → PrintsJob p k job ran a b → ran.status ≢ 5 → HasPlainStatus ran
+plain_one : (p : Printer) (k : Screening) (job : SpoolJob) (ran : Ran) (a b : Between) → PrintsJob p k job ran a b → ran.status ≢ 5 → HasPlainStatus ran
 plain_one p k job ran a b prints fine =
     let P : ℕ → Type 0 = λ s. (s ≡ 0) ⊎ ((s ≡ 3) ⊎ ((s ≡ 6) ⊎ (s ≡ 7))) in
     record {
@@ -49,7 +49,7 @@ plain_one p k job ran a b prints fine =
           (plain_answer p k job.stream ran.pages prints.answer a b prints.prints (λ five. fine (prints.status_is ∙ five)));
     }
 
-pub plain_all : (p : Printer) (k : Table) (jobs : List SpoolJob) (done : List Ran) (a b : Between) → PrintsJobs p k jobs done a b
+pub plain_all : (p : Printer) (k : Screening) (jobs : List SpoolJob) (done : List Ran) (a b : Between) → PrintsJobs p k jobs done a b
     → All (λ ran. ran.status ≢ 5) done → All HasPlainStatus done
 plain_all p k [] [] a b are fine = All-nil HasPlainStatus
 plain_all p k (job ∷ jobs) (ran ∷ done) a b are fine =
@@ -83,7 +83,7 @@ all_zero (ran ∷ done) plain refused full =
     (all_zero done (All-tail HasPlainStatus ran done plain) one.1 (All-tail Q ran done full))
 
 -- a stream was printed in the way of the spool
-pub stream_printed : {p : Printer} {k : Table} {pages : ℕ} {a : Answer} {bytes : Stream} {x y : Between} (way : Way) (input : Outside)
+pub stream_printed : {p : Printer} {k : Screening} {pages : ℕ} {a : Answer} {bytes : Stream} {x y : Between} (way : Way) (input : Outside)
     → way ≡ Woven → input.before ≡ Some bytes → IsCalm input
     → PrintedOutcome way p k input (out_from x y) (meters_from x y) pages a → PrintsStream p k bytes pages a x y
 stream_printed {p} {k} {pages} {a} {bytes} {x} {y} way input is stream_is calm printed = record {
@@ -94,7 +94,7 @@ stream_printed {p} {k} {pages} {a} {bytes} {x} {y} way input is stream_is calm p
 }
 
 -- one more job was printed
-pub more_done : {p : Printer} {k : Table} {x m y : Between} (jobs next : List SpoolJob) (job : SpoolJob) (done now : List Ran) (pages status : ℕ)
+pub more_done : {p : Printer} {k : Screening} {x m y : Between} (jobs next : List SpoolJob) (job : SpoolJob) (done now : List Ran) (pages status : ℕ)
     (a : Answer) → next ≡ jobs ++ job ∷ []
     → now ≡ done ++ record { sender = job.sender; number = job.number; pages = pages; status = status } ∷ []
     → AreDone p k jobs done x m → PrintsStream p k job.stream pages a m y → status ≡ status_of a → AreDone p k next now x y

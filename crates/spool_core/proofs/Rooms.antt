@@ -1,7 +1,7 @@
 -- Meters that have room for the pages of all streams: no job goes past a cap.
 use Rattle.std.proofs.Common.{◌≡◌, ◌≢◌, ℕ, ◌+◌, List, [], ◌∷◌, map, sym, refl, ◌∙◌, ap, subst, arith, All, Option, Some}
 use Rattle.std.proofs.lemmas.List.Elements.{All-cons, All-head, All-map, All-nil, All-tail, All-weaker}
-use Rattle.diffusion_definitions.specs.Diffusion.{Table}
+use Rattle.page_definitions.specs.Dots.{Screening}
 use Rattle.driver_answer.specs.Answers.{status_of}
 use Rattle.driver_answer.specs.declared.answer.Answer.{Answer}
 use Rattle.driver_answer.specs.declared.answer.Answer.TheVariants as print
@@ -22,13 +22,13 @@ use Rattle.spool_core.specs.Printed.{Between, PrintsJob, PrintsJobs, PrintsStrea
 use Rattle.spool_core.specs.Promises.{HasRoomFor, IsValidStream, dots_of_streams, stream_dots}
 use Rattle.spool_core.specs.declared.report.Ran.{Ran}
 
-pub streams_as_told : (p : Printer) (k : Table) (streams : List Stream) → dots_of_streams p k streams ≡ of_streams (stream_dots p k) streams
+pub streams_as_told : (p : Printer) (k : Screening) (streams : List Stream) → dots_of_streams p k streams ≡ of_streams (stream_dots p k) streams
 streams_as_told p k [] = refl
 streams_as_told p k (s ∷ streams) = ap (λ n. stream_dots p k s + n) (streams_as_told p k streams)
 
 -- ---- meters that have room for pages and more admit the pages, and have room for the rest
 
-page_room : (p : Printer) (k : Table) (pages : List Page) (more : ℕ) (accounts : List Account)
+page_room : (p : Printer) (k : Screening) (pages : List Page) (more : ℕ) (accounts : List Account)
     → All (HasRoomFor (all_inks (dots_of_pages p k pages) + more)) accounts
     → Admitted p k pages accounts × All (HasRoomFor more) (counted p k pages accounts)
 page_room p k [] more accounts room =
@@ -44,7 +44,7 @@ page_room p k (page ∷ pages) more accounts room =
 
 -- ---- the jobs
 
-pub not_three : (p : Printer) (k : Table) (bytes : Stream) (pages : ℕ) (a : Answer) (x y : Between) → IsValidStream p bytes
+pub not_three : (p : Printer) (k : Screening) (bytes : Stream) (pages : ℕ) (a : Answer) (x y : Between) → IsValidStream p bytes
     → PrintsStream p k bytes pages a x y → status_of a ≢ 3
 not_three p k bytes pages (print.Input page line why) x y valid prints three =
     let ended : IsStream p (Some bytes) prints.printed.0.0.pages (Fault page line why) =
@@ -53,7 +53,7 @@ not_three p k bytes pages (print.Input page line why) x y valid prints three =
 not_three p k bytes pages other x y valid prints three = absurd (omega arith)
 
 -- a job of a valid stream for which the meters have room is printed, where no write failed and memory sufficed
-job_fits : (p : Printer) (k : Table) (job : SpoolJob) (ran : Ran) (a b : Between) (more : ℕ) → PrintsJob p k job ran a b
+job_fits : (p : Printer) (k : Screening) (job : SpoolJob) (ran : Ran) (a b : Between) (more : ℕ) → PrintsJob p k job ran a b
     → IsValidStream p job.stream → ran.status ≢ 5 → ran.status ≢ 7 → All (HasRoomFor (stream_dots p k job.stream + more)) a.accounts
     → (ran.status ≡ 0) × All (HasRoomFor more) b.accounts
 job_fits p k job ran a b more one valid five seven room =
@@ -82,7 +82,7 @@ job_fits p k job ran a b more one valid five seven room =
     by_answer print.Memory prints is fits = absurd (seven is)
     by_answer other prints is fits = absurd prints.printed.0
 
-pub none_over : (p : Printer) (k : Table) (jobs : List SpoolJob) (done : List Ran) (a b : Between) → PrintsJobs p k jobs done a b
+pub none_over : (p : Printer) (k : Screening) (jobs : List SpoolJob) (done : List Ran) (a b : Between) → PrintsJobs p k jobs done a b
     → All (λ (x : SpoolJob). IsValidStream p x.stream) jobs → All (λ (ran : Ran). (ran.status ≢ 5) × (ran.status ≢ 7)) done
     → All (HasRoomFor (of_jobs (stream_dots p k) jobs)) a.accounts → All (λ (ran : Ran). ran.status ≢ 6) done
 none_over p k [] [] a b are valid plain room = All-nil (λ (ran : Ran). ran.status ≢ 6)

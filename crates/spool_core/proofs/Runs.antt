@@ -3,9 +3,8 @@ use Rattle.std.proofs.Common.{◌≡◌, ◌≢◌, ℕ, suc, ◌<◌, ◌≤◌
 use Rattle.std.specs.List.{AllByRecursion}
 use Rattle.std.proofs.lemmas.List.Elements.{All-cons, All-nil}
 use Rattle.std.proofs.KnownBytes.{Keeps-refl}
-use Rattle.diffusion_definitions.specs.Diffusion.{Table}
-use Rattle.diffusion_kernel.specs.Tables.{table_of}
-use Rattle.diffusion_kernel.specs.declared.tables.Kernel.{Kernel}
+use Rattle.page_definitions.specs.Dots.{Screening}
+use Rattle.page_halftoner.specs.Screenings.{screening_of}
 use Rattle.driver_core.specs.Outside.{HasRisen, Meters, Outside}
 use Rattle.job_profile.specs.Named.{IsJobProfile}
 use Rattle.job_profile.specs.Stops.{OnRefused}
@@ -36,7 +35,7 @@ pub prints_none : (held : Option (List ℕ)) (faults : ℕ) (meters : Meters) (d
 prints_none held faults meters done none uncounted = record { none = none; unwritten = Keeps-refl held; uncounted = uncounted }
 
 -- all jobs ran
-pub all_ran : (p : Printer) (k : Table) (sent : List (List Stream)) (jobs : List SpoolJob) (out : Outside) (meters : Meters) (done : List Ran)
+pub all_ran : (p : Printer) (k : Screening) (sent : List (List Stream)) (jobs : List SpoolJob) (out : Outside) (meters : Meters) (done : List Ran)
     (a : SpoolAnswer) → AreSent (sent_by sent) jobs → PrintsJobs p k jobs done (at_call out meters) (at_return out meters)
     → All (λ ran. ran.status ≢ 5) done → AnswersJobs done a → PrintingOutcome p k sent out meters done a
 all_ran p k sent jobs out meters done answer.Done are prints fine sums = (record { jobs = jobs; are = are; prints = prints }, sums)
@@ -45,7 +44,7 @@ all_ran p k sent jobs out meters done answer.Memory are prints fine sums = inr (
 all_ran p k sent jobs out meters done other are prints fine sums = absurd sums
 
 -- a write failed
-pub not_all_ran : (p : Printer) (k : Table) (sent : List (List Stream)) (jobs rest : List SpoolJob) (out : Outside) (meters : Meters)
+pub not_all_ran : (p : Printer) (k : Screening) (sent : List (List Stream)) (jobs rest : List SpoolJob) (out : Outside) (meters : Meters)
     (done : List Ran) (a : SpoolAnswer) → AreSent (sent_by sent) (jobs ++ rest)
     → PrintsJobs p k jobs done (at_call out meters) (at_return out meters) → HasRisen out → WriteStopped done a
     → PrintingOutcome p k sent out meters done a
@@ -111,7 +110,7 @@ are_few words sent request e within =
     record { some_senders = omega (arith, few.0); most_senders = omega (arith, few.0); some_jobs = few.1; most_jobs = few.2 }
 
 -- what the printer did, and the answer to it
-pub came_to : (r : Result (Unit {0}) SpoolAnswer) (p : Printer) (k : Table) (sent : List (List Stream)) (jobs : List SpoolJob) (out : Outside)
+pub came_to : (r : Result (Unit {0}) SpoolAnswer) (p : Printer) (k : Screening) (sent : List (List Stream)) (jobs : List SpoolJob) (out : Outside)
     (meters : Meters) (done : List Ran) (a : SpoolAnswer) (count : ℕ)
     → AreDone p k jobs done (at_call out meters) (at_return out meters)
     → OnOk r (length jobs ≡ count) → count ≡ count_sent sent → OnOk r (All (λ ran. ran.status ≢ 5) done) → OnOk r (AnswersJobs done a)
@@ -125,27 +124,28 @@ came_to (Err stop') p k sent jobs out meters done a count are every count_is fin
     not_all_ran p k sent jobs rest.0 out meters done a rest.1 are.are risen (subst (WriteStopped done) (sym stop) write)
 
 -- all jobs that were printed have a plain status, where no write failed
-pub plain_jobs : (r : Result (Unit {0}) SpoolAnswer) {p : Printer} {k : Table} {jobs : List SpoolJob} {done : List Ran} {x y : Between}
+pub plain_jobs : (r : Result (Unit {0}) SpoolAnswer) {p : Printer} {k : Screening} {jobs : List SpoolJob} {done : List Ran} {x y : Between}
     → AreDone p k jobs done x y → OnOk r (All (λ ran. ran.status ≢ 5) done) → OnOk r (All HasPlainStatus done)
 plain_jobs (Ok u) {p} {k} {jobs} {done} {x} {y} are fine = plain_all p k jobs done x y are.are fine
 plain_jobs (Err stop) are fine = tt
 
 -- no more jobs were printed than sent
-pub few_done : {p : Printer} {k : Table} {jobs : List SpoolJob} {done : List Ran} {x y : Between} (count : ℕ)
+pub few_done : {p : Printer} {k : Screening} {jobs : List SpoolJob} {done : List Ran} {x y : Between} (count : ℕ)
     → AreDone p k jobs done x y → length jobs ≤ count → count < 2 ^ 31 → length done < 2 ^ 31
 few_done {p} {k} {jobs} {done} {x} {y} count are le lt = let many = as_many p k jobs done x y are.are in omega arith
 
 -- there are a profile and all files
-pub with_files : (words : List (List ℕ)) (request : SpoolRequest) (o : SpoolOutside) (done : List Ran) (p : Printer) (kernel : Kernel)
-    (sent : List (List Stream)) (a : SpoolAnswer) → spool_meaning words ≡ Ok request → kernel ≡ request.kernel
+pub with_files : (words : List (List ℕ)) (request : SpoolRequest) (o : SpoolOutside) (done : List Ran) (p : Printer) (k : Screening)
+    (sent : List (List Stream)) (a : SpoolAnswer) → spool_meaning words ≡ Ok request
+    → k ≡ screening_of request.kernel request.grain
     → IsJobProfile o.shelf.told (profile_named words) (Ok p) → AreFiles o.shelf.told (names_of words) sent
-    → PrintingOutcome p (table_of kernel) sent o.out o.meters done a → SpoolOutcome words o done a
-with_files words request o done p kernel sent a means same is files printed =
+    → PrintingOutcome p k sent o.out o.meters done a → SpoolOutcome words o done a
+with_files words request o done p k sent a means same is files printed =
     subst (λ (m : Result SpoolRequest SpoolFault). RequestOutcome m words o done a) (sym means)
     (inr (inr (record {
       p = p;
       profile = is;
       sent = sent;
       files = files;
-      printed = subst (λ (k : Kernel). PrintingOutcome p (table_of k) sent o.out o.meters done a) same printed;
+      printed = subst (λ (s : Screening). PrintingOutcome p s sent o.out o.meters done a) same printed;
     })))

@@ -4,8 +4,8 @@ use Rattle.std.specs.Prelude.{IfSome, slice_index_or, flat_map, ◌==◌, ◌||�
 use Rattle.std.proofs.lemmas.List.{get_or-append-add, get_or_append_left, get_or_default}
 use Rattle.std.proofs.lemmas.List.Elements.{All-append, All-from_get_or, All-get_or, All-head, All-nil, All-tail}
 use Rattle.std.proofs.lemmas.List.Sums.{sum_by-cons}
-use Rattle.diffusion_definitions.specs.Diffusion.{Table}
-use Rattle.diffusion_kernel.specs.Tables.{table_of}
+use Rattle.page_definitions.specs.Dots.{Screening}
+use Rattle.page_halftoner.specs.Screenings.{screening_of}
 use Rattle.driver_core.specs.Outside.{HasFailed, IsCalm, Outside}
 use Rattle.job_profile.specs.Named.{IsJobProfile, Refusal, job_profile}
 use Rattle.printer_definitions.specs.Printer.{Printer}
@@ -143,7 +143,7 @@ jobs_valid P sent jobs d are all = All-from_get_or (λ (x : SpoolJob). P x.strea
 not_counted : (s : ℕ) → s ≢ 3 → s ≢ 6 → ((s == 3) || (s == 6)) ≡ false
 not_counted s three six = rw (ne_eqb s 3 three, ne_eqb s 6 six)
 
-none_counted : (p : Printer) (k : Table) (jobs : List SpoolJob) (done : List Ran) (a b : Between) → PrintsJobs p k jobs done a b
+none_counted : (p : Printer) (k : Screening) (jobs : List SpoolJob) (done : List Ran) (a b : Between) → PrintsJobs p k jobs done a b
     → All (λ (x : SpoolJob). IsValidStream p x.stream) jobs → All (λ (ran : Ran). ran.status ≢ 6) done → count_by is_refused done ≡ 0
 none_counted p k [] [] a b are valid fine = refl
 none_counted p k (job ∷ jobs) (ran ∷ done) a b are valid fine =
@@ -163,7 +163,7 @@ IsFine a = (spool_status a ≡ 0) ⊎ (spool_status a ≡ 7)
 
 module _ (words : List (List ℕ)) (o : SpoolOutside) (done : List Ran) (valid : IsValidSpool words o) (files : List NamedText)
     (is : o.shelf.told ≡ Some files) (calm : HasFailed o.shelf → ⊥) (calm_out : IsCalm o.out)
-    (fine : (p : Printer) (k : Table) (sent : List (List Stream)) → p ≡ valid.p → k ≡ table_of valid.request.kernel
+    (fine : (p : Printer) (k : Screening) (sent : List (List Stream)) → p ≡ valid.p → k ≡ screening_of valid.request.kernel valid.request.grain
     → joined sent ≡ joined valid.sent → (every : PrintsEvery p k sent done (at_call o.out o.meters) (at_return o.out o.meters))
     → All (λ (x : SpoolJob). IsValidStream p x.stream) every.jobs → All (λ (ran : Ran). (ran.status ≢ 5) × (ran.status ≢ 7)) done
     → All (λ (ran : Ran). ran.status ≢ 6) done) where
@@ -180,8 +180,8 @@ module _ (words : List (List ℕ)) (o : SpoolOutside) (done : List Ran) (valid :
   by_files answer.Memory h = inr refl
   by_files other h = absurd h
 
-  by_printing : (p : Printer) (k : Table) (sent : List (List Stream)) (a : SpoolAnswer) → p ≡ valid.p
-      → k ≡ table_of valid.request.kernel → AreFiles o.shelf.told (names_of words) sent → PrintingOutcome p k sent o.out o.meters done a → IsFine a
+  by_printing : (p : Printer) (k : Screening) (sent : List (List Stream)) (a : SpoolAnswer) → p ≡ valid.p
+      → k ≡ screening_of valid.request.kernel valid.request.grain → AreFiles o.shelf.told (names_of words) sent → PrintingOutcome p k sent o.out o.meters done a → IsFine a
   by_printing p k sent answer.Done same kernel are h = inl refl
   by_printing p k sent answer.Memory same kernel are h = inr refl
   by_printing p k sent (answer.Write sender job page) same kernel are h = absurd (calm_out h.0)
@@ -208,7 +208,7 @@ module _ (words : List (List ℕ)) (o : SpoolOutside) (done : List Ran) (valid :
       by_printing h.p _ h.sent a (cc) refl h.files h.printed)) by_request
 
 -- where the meters have room for all streams, no job goes past a cap
-roomy_jobs : {done : List Ran} (o : SpoolOutside) (q p : Printer) (l k : Table) (streams : List Stream) (sent : List (List Stream))
+roomy_jobs : {done : List Ran} (o : SpoolOutside) (q p : Printer) (l k : Screening) (streams : List Stream) (sent : List (List Stream))
     → p ≡ q → k ≡ l → joined sent ≡ streams → (every : PrintsEvery p k sent done (at_call o.out o.meters) (at_return o.out o.meters))
     → All (λ (x : SpoolJob). IsValidStream p x.stream) every.jobs → All (λ (ran : Ran). (ran.status ≢ 5) × (ran.status ≢ 7)) done
     → All (HasRoomFor (dots_of_streams q l streams)) o.meters.before → All (λ (ran : Ran). ran.status ≢ 6) done
@@ -233,5 +233,5 @@ promised {words} {o} {err} {status} {done} a outcome is told =
           subst P (sym is) (valid_run words o done valid shelf.0 shelf.1 calm calm_out (λ p k sent same kernel order every jobs plain. fine) a outcome);
       roomy = λ valid shelf calm calm_out room.
           subst P (sym is) (valid_run words o done valid shelf.0 shelf.1 calm calm_out (λ p k sent same kernel order every jobs plain.
-          roomy_jobs o valid.p p (table_of valid.request.kernel) k (joined valid.sent) sent same kernel order every jobs plain room) a outcome);
+          roomy_jobs o valid.p p (screening_of valid.request.kernel valid.request.grain) k (joined valid.sent) sent same kernel order every jobs plain room) a outcome);
     }

@@ -1,8 +1,8 @@
 -- The outcome of a run of the spool, by its answer.
 use Rattle.std.specs.Prelude.{◌≡◌, ◌≢◌, ℕ, ◌+◌, ◌≤◌, ◌==◌, ◌||◌, ◌⊎◌, Bool, List, [], ◌∷◌, ◌++◌, All, count_by, None, Result, Ok, Err}
 use Rattle.std.specs.Io.KnownBytes.{Keeps}
-use Rattle.diffusion_definitions.specs.Diffusion.{Table}
-use Rattle.diffusion_kernel.specs.Tables.{table_of}
+use Rattle.page_definitions.specs.Dots.{Screening}
+use Rattle.page_halftoner.specs.Screenings.{screening_of}
 use Rattle.driver_core.specs.Outside.{HasFailed, HasRisen, Meters, Outside, Texts}
 use Rattle.job_profile.specs.Named.{IsJobProfile, refused_at}
 use Rattle.printer_definitions.specs.Printer.{Printer}
@@ -69,7 +69,7 @@ AnswersJobs done answer.Memory = 1 ≤ count_by (λ (ran : Ran). ran.status == 7
 AnswersJobs done other = ⊥
 
 -- The answer after all files were read: what was printed of them.
-abbrev pub PrintingOutcome : Printer → Table → List (List Stream) → Outside → Meters → List Ran → SpoolAnswer → Type 0
+abbrev pub PrintingOutcome : Printer → Screening → List (List Stream) → Outside → Meters → List Ran → SpoolAnswer → Type 0
 PrintingOutcome p k sent out meters done answer.Done =
     PrintsEvery p k sent done (at_call out meters) (at_return out meters) × AnswersJobs done answer.Done
 PrintingOutcome p k sent out meters done (answer.Failed count) =
@@ -103,7 +103,7 @@ pub record WithFiles (words : List (List ℕ)) (request : SpoolRequest) (o : Spo
   pub profile : IsJobProfile o.shelf.told (profile_named words) (Ok p)
   pub sent : List (List Stream)
   pub files : AreFiles o.shelf.told (names_of words) sent
-  pub printed : PrintingOutcome p (table_of request.kernel) sent o.out o.meters done a
+  pub printed : PrintingOutcome p (screening_of request.kernel request.grain) sent o.out o.meters done a
 
 -- The outcome of the words: refused ones, no profile, a file that is not read, or what was printed.
 abbrev pub RequestOutcome : Result SpoolRequest SpoolFault → List (List ℕ) → SpoolOutside → List Ran → SpoolAnswer → Type 0

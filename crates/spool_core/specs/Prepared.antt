@@ -4,6 +4,7 @@ use Rattle.driver_core.specs.Printing.Setup.{CanBePrinted}
 use Rattle.driver_core.specs.declared.print.setup.PrintSetup.{PrintSetup}
 use Rattle.job_profile.specs.Named.{IsJobProfile}
 use Rattle.page_definitions.specs.declared.way.Way.TheVariants.{Woven}
+use Rattle.page_halftoner.specs.Screenings.{screening_of}
 use Rattle.spool_queue.specs.Jobs.{Stream}
 use Rattle.spool_words.specs.Meaning.{names_of, profile_named, spool_meaning}
 use Rattle.spool_words.specs.declared.reading.SpoolRequest.{SpoolRequest}
@@ -31,7 +32,7 @@ sent_in prepared = map (λ list. list.items) prepared.lists.items
 pub record IsPrepared (words : List (List ℕ)) (told : Option (List NamedText)) (prepared : PreparedSpool) : Type 0 where
   pub request : SpoolRequest
   pub means : spool_meaning words ≡ Ok request
-  pub kernel_is : prepared.how.kernel ≡ request.kernel
+  pub screening_is : screening_of prepared.how.kernel prepared.how.grain ≡ screening_of request.kernel request.grain
   pub workers_is : prepared.how.workers ≡ request.workers
   pub profile_is : IsJobProfile told (profile_named words) (Ok prepared.how.profile)
   pub files : AreFiles told (names_of words) (sent_in prepared)

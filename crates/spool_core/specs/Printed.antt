@@ -1,6 +1,6 @@
 -- The jobs of a spool that were printed, one after another, and what was done of each.
 use Rattle.std.specs.Prelude.{◌≡◌, ℕ, List, [], ◌∷◌, ◌++◌, Option, Some}
-use Rattle.diffusion_definitions.specs.Diffusion.{Table}
+use Rattle.page_definitions.specs.Dots.{Screening}
 use Rattle.driver_answer.specs.Answers.{status_of}
 use Rattle.driver_answer.specs.declared.answer.Answer.{Answer}
 use Rattle.driver_core.specs.Outside.{IsCalm, Meters, Outside}
@@ -30,40 +30,40 @@ abbrev pub between : Option (List ℕ) → ℕ → List Account → Between
 between held faults accounts = record { held = held; faults = faults; accounts = accounts }
 
 -- A stream was printed from a source that did not fail, and this many pages of it.
-pub record PrintsStream (p : Printer) (k : Table) (bytes : Stream) (pages : ℕ) (a : Answer) (x y : Between) : Type 0 where
+pub record PrintsStream (p : Printer) (s : Screening) (bytes : Stream) (pages : ℕ) (a : Answer) (x y : Between) : Type 0 where
   pub input : Outside
   pub stream_is : input.before ≡ Some bytes
   pub calm : IsCalm input
-  pub printed : PrintedOutcome Woven p k input (out_from x y) (meters_from x y) pages a
+  pub printed : PrintedOutcome Woven p s input (out_from x y) (meters_from x y) pages a
 
 -- A job was printed, and this was done of it.
-pub record PrintsJob (p : Printer) (k : Table) (job : SpoolJob) (ran : Ran) (a b : Between) : Type 0 where
+pub record PrintsJob (p : Printer) (s : Screening) (job : SpoolJob) (ran : Ran) (a b : Between) : Type 0 where
   pub answer : Answer
-  pub prints : PrintsStream p k job.stream ran.pages answer a b
+  pub prints : PrintsStream p s job.stream ran.pages answer a b
   pub status_is : ran.status ≡ status_of answer
   pub sender_is : ran.sender ≡ job.sender
   pub number_is : ran.number ≡ job.number
 
 -- The jobs were printed one after another, each where the one before it had left the output and the meters.
-abbrev pub PrintsJobs : Printer → Table → List SpoolJob → List Ran → Between → Between → Type 0
-PrintsJobs p k [] [] a b = a ≡ b
-PrintsJobs p k (job ∷ jobs) (ran ∷ done) a b = (m : Between) × PrintsJob p k job ran a m × PrintsJobs p k jobs done m b
-PrintsJobs p k jobs done a b = ⊥
+abbrev pub PrintsJobs : Printer → Screening → List SpoolJob → List Ran → Between → Between → Type 0
+PrintsJobs p s [] [] a b = a ≡ b
+PrintsJobs p s (job ∷ jobs) (ran ∷ done) a b = (m : Between) × PrintsJob p s job ran a m × PrintsJobs p s jobs done m b
+PrintsJobs p s jobs done a b = ⊥
 
 -- the same as a fact with a name
-pub record AreDone (p : Printer) (k : Table) (jobs : List SpoolJob) (done : List Ran) (a b : Between) : Type 0 where
-  pub are : PrintsJobs p k jobs done a b
+pub record AreDone (p : Printer) (s : Screening) (jobs : List SpoolJob) (done : List Ran) (a b : Between) : Type 0 where
+  pub are : PrintsJobs p s jobs done a b
 
 -- Of what the senders sent, these jobs were printed and the others not: of each sender its jobs, in order and numbered
 -- from 1, are the first of its streams.
-pub record PrintsFirst (p : Printer) (k : Table) (sent : List (List Stream)) (done : List Ran) (a b : Between) : Type 0 where
+pub record PrintsFirst (p : Printer) (s : Screening) (sent : List (List Stream)) (done : List Ran) (a b : Between) : Type 0 where
   pub jobs : List SpoolJob
   pub others : List SpoolJob
   pub are : AreSent (sent_by sent) (jobs ++ others)
-  pub prints : PrintsJobs p k jobs done a b
+  pub prints : PrintsJobs p s jobs done a b
 
 -- All that the senders sent was printed.
-pub record PrintsEvery (p : Printer) (k : Table) (sent : List (List Stream)) (done : List Ran) (a b : Between) : Type 0 where
+pub record PrintsEvery (p : Printer) (s : Screening) (sent : List (List Stream)) (done : List Ran) (a b : Between) : Type 0 where
   pub jobs : List SpoolJob
   pub are : AreSent (sent_by sent) jobs
-  pub prints : PrintsJobs p k jobs done a b
+  pub prints : PrintsJobs p s jobs done a b

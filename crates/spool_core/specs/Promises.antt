@@ -1,7 +1,7 @@
 -- What a run of the spool promises, by its words, the outside, the error sink and its report.
 use Rattle.std.specs.Prelude.{◌≡◌, ◌≢◌, ℕ, ◌+◌, ◌≤◌, ◌⊎◌, List, [], ◌∷◌, All, Some, Ok}
-use Rattle.diffusion_definitions.specs.Diffusion.{Table}
-use Rattle.diffusion_kernel.specs.Tables.{table_of}
+use Rattle.page_definitions.specs.Dots.{Screening}
+use Rattle.page_halftoner.specs.Screenings.{screening_of}
 use Rattle.driver_core.specs.Outside.{HasFailed, IsCalm, Outside}
 use Rattle.driver_core.specs.Trying.Summary.{dots_of_pages}
 use Rattle.ink_meter.specs.Accounts.{Account, all_inks}
@@ -35,11 +35,11 @@ pub record IsValidSpool (words : List (List ℕ)) (o : SpoolOutside) : Type 0 wh
   pub streams : All (All (IsValidStream p)) sent
 
 -- the dots of all inks that the pages of a stream ask for
-abbrev pub stream_dots : Printer → Table → Stream → ℕ
+abbrev pub stream_dots : Printer → Screening → Stream → ℕ
 stream_dots p k bytes = all_inks (dots_of_pages p k (stream (wanted_by p) bytes).pages)
 
 -- those of all streams
-abbrev pub dots_of_streams : Printer → Table → List Stream → ℕ
+abbrev pub dots_of_streams : Printer → Screening → List Stream → ℕ
 dots_of_streams p k [] = 0
 dots_of_streams p k (bytes ∷ streams) = stream_dots p k bytes + dots_of_streams p k streams
 
@@ -59,4 +59,4 @@ pub record SpoolPromises (words : List (List ℕ)) (o : SpoolOutside) (err : Out
       → All (λ ran. ran.status ≢ 6) done → (status ≡ 0) ⊎ (status ≡ 7)
   -- the same where each meter has room for all pages of all streams, in whatever order the jobs come
   pub roomy : (v : IsValidSpool words o) → ((files : List NamedText) × (o.shelf.told ≡ Some files)) → (HasFailed o.shelf → ⊥) → IsCalm o.out
-      → All (HasRoomFor (dots_of_streams v.p (table_of v.request.kernel) (joined v.sent))) o.meters.before → (status ≡ 0) ⊎ (status ≡ 7)
+      → All (HasRoomFor (dots_of_streams v.p (screening_of v.request.kernel v.request.grain) (joined v.sent))) o.meters.before → (status ≡ 0) ⊎ (status ≡ 7)

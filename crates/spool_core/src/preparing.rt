@@ -44,6 +44,7 @@ pub fn prepare<F: Shelf>(
         how: PrintSetup {
             profile,
             kernel: request.kernel,
+            grain: request.grain,
             way: Way::Woven,
             workers: request.workers,
         },

@@ -1,5 +1,5 @@
 //! The printer: it takes jobs from the spool, and prints each.
-ghost use Rattle.diffusion_kernel.specs.Tables.{table_of};
+ghost use Rattle.page_halftoner.specs.Screenings.{screening_of};
 ghost use Rattle.spool_core.specs.Outcome.{AnswersJobs, HasPlainStatus, WriteStopped};
 ghost use Rattle.spool_core.specs.Prepared.{CanPrintWoven};
 ghost use Rattle.spool_core.specs.Printed.{AreDone, PrintsStream, between};
@@ -30,7 +30,7 @@ fn print_bytes<R: Threads + Sync, K: Sink, G: Gate + Sync>(
     meters: &mut Vec<Box<dyn Meter>>,
 ) -> Printed
     requires { CanPrintWoven how.now }
-    ensures prints { PrintsStream how.now.profile (table_of how.now.kernel) stream result.pages result.answer
+    ensures prints { PrintsStream how.now.profile (screening_of how.now.kernel how.now.grain) stream result.pages result.answer
         (between (K.held out.old) (K.faults out.old) (map (λ meter. account meter) meters.old.items))
         (between (K.held out.new) (K.faults out.new) (map (λ meter. account meter) meters.new.items)) }
     ensures later { K.faults out.old ≤ K.faults out.new }
@@ -61,7 +61,7 @@ pub fn print_jobs<R: Threads + Wait + Sync, K: Sink, G: Gate + Sync>(
     requires room { count ≤ vec_capacity done.old }
     ensures pass { IsPrinterOf spool.now printer.new }
     ensures senders { senders_of printer.new ≡ senders_of printer.old }
-    ensures prints { AreDone how.now.profile (table_of how.now.kernel) (taken_of printer.new) done.new.items
+    ensures prints { AreDone how.now.profile (screening_of how.now.kernel how.now.grain) (taken_of printer.new) done.new.items
         (between (K.held out.old) (K.faults out.old) (map (λ meter. account meter) meters.old.items))
         (between (K.held out.new) (K.faults out.new) (map (λ meter. account meter) meters.new.items)) }
     ensures every { OnOk result (length (taken_of printer.new) ≡ count) }

@@ -1,5 +1,5 @@
 //! A run of the spool.
-ghost use Rattle.diffusion_kernel.specs.Tables.{table_of};
+ghost use Rattle.page_halftoner.specs.Screenings.{screening_of};
 ghost use Rattle.driver_core.specs.Outside.{meters_of, outside_of, texts_of};
 ghost use Rattle.spool_core.specs.Desks.{IsDesk};
 ghost use Rattle.spool_core.specs.Outcome.{PrintingOutcome, SpoolOutcome};
@@ -41,7 +41,7 @@ fn run_desk<R: Threads + Wait + Sync, K: Sink, G: Gate + Sync>(
 ) -> Finished
     requires can { CanPrintWoven how.now }
     requires desk { IsDesk (lists_in desk.works.items) desk }
-    ensures { PrintingOutcome how.now.profile (table_of how.now.kernel) (lists_in desk.works.items)
+    ensures { PrintingOutcome how.now.profile (screening_of how.now.kernel how.now.grain) (lists_in desk.works.items)
         (outside_of K.held K.faults out.old out.new)
         (meters_of (λ meter. account meter) meters.old.items meters.new.items) result.done.items result.answer }
 {
@@ -82,7 +82,7 @@ fn perform<R: Threads + Wait + Sync, K: Sink, G: Gate + Sync>(
 ) -> Finished
     requires can { CanPrintWoven prepared.how }
     requires few { AreFew (sent_in prepared) }
-    ensures { PrintingOutcome prepared.how.profile (table_of prepared.how.kernel) (sent_in prepared)
+    ensures { PrintingOutcome prepared.how.profile (screening_of prepared.how.kernel prepared.how.grain) (sent_in prepared)
         (outside_of K.held K.faults out.old out.new)
         (meters_of (λ meter. account meter) meters.old.items meters.new.items) result.done.items result.answer }
 {
@@ -123,10 +123,10 @@ fn work<R: Threads + Wait + Sync, K: Sink, F: Shelf, G: Gate + Sync>(
     }
 }
 
-/// Runs the spool: the words name a profile, a kernel, a number of workers, and for each of up to eight senders its
-/// files; the files are page streams (PWG Raster, PWG 5102.4), and each is a job. All files are read from the shelf,
-/// the senders submit them, and the printer prints each as the driver's `print` does, one after another, as ESC/P2
-/// commands on `out`. A sender's jobs are printed in its order; which sender's is printed first is left open.
+/// Runs the spool: the words name a profile, a kernel, a grain, a number of workers, and for each of up to eight
+/// senders its files; the files are page streams (PWG Raster, PWG 5102.4), and each is a job. All files are read from
+/// the shelf, the senders submit them, and the printer prints each as the driver's `print` does, one after another, as
+/// ESC/P2 commands on `out`. A sender's jobs are printed in its order; which sender's is printed first is left open.
 ///
 /// The status of the report is the exit status: 0 every job was printed, 1 a word is refused, 2 the profile is refused,
 /// 3 a file is absent or too long, 4 a read of the shelf failed, 5 a write failed, 7 memory ran out, 9 all jobs ran,

@@ -4,7 +4,8 @@ use program_words::{CAUSES, ProgramTexts};
 const HELP: &str = "\
 jinthbao spool - prints PWG Raster files of several senders on one printer, as ESC/P2 jobs
 
-usage: jinthbao-spool [profile=NAME] [kernel=NAME] [workers=NUMBER] send=FILE,.. [send=FILE,..]..
+usage: jinthbao-spool [profile=NAME] [kernel=NAME] [grain=NUMBER] [workers=NUMBER]
+                      send=FILE,.. [send=FILE,..]..
        jinthbao-spool --help [CAUSE] | --version
 
 Each word send= is a sender, from 1 to 8 of them, with 1 to 64 files of the current folder. All files are read before
@@ -16,6 +17,7 @@ are the work of a print server such as CUPS.
 profile=NAME    tiny1, tiny, p360k, p360cmyk, p720cmyk, or a file of the current folder
                 (default p360cmyk)
 kernel=NAME     fs (Floyd and Steinberg), jjn (Jarvis, Judice and Ninke) or stucki (default fs)
+grain=NUMBER    0 to 32 (default 0): evens out flat colours
 workers=NUMBER  1 to 64 (default 1): so many threads halftone a page and code its rows, and one of them reads and
                 writes; the jobs are the same for each number
 

@@ -12,9 +12,10 @@ use Rattle.std.proofs.lemmas.Slice.Eq.{bytes_eq-Decides}
 use Rattle.key_values.specs.Pairs.{is_key_value, key_of, value_of}
 use Rattle.key_values.specs.Lists.{is_comma}
 use Rattle.job_words.specs.Meaning.{given, gives, refused}
-use Rattle.job_words.specs.Table.{profile_key, workers_key}
+use Rattle.job_words.specs.Table.{grain_key, profile_key, workers_key}
 use Rattle.job_words.proofs.Bounds.{given_between}
 use Rattle.job_words.proofs.Steps.{first_good as first_accepted}
+use Rattle.separation_definitions.specs.Grain.{most_grain}
 use Rattle.spool_words.specs.declared.faults.SpoolCause.{SpoolCause}
 use Rattle.spool_words.specs.declared.faults.SpoolCause.TheVariants.{BadValue, NoSend, NotKeyValue}
 use Rattle.spool_words.specs.declared.faults.SpoolFault.{SpoolFault}
@@ -157,8 +158,10 @@ words_accepted words request means = by_faults (refused faults_on words []) refl
 pub within_bounds : (words : List (List ℕ)) (request : SpoolRequest) → spool_meaning words ≡ Ok request → IsWithinBounds words request
 within_bounds words request means =
     let all = words_accepted words request means in
+    let grain = given_between 0 most_grain 0 (given grain_key words) (record { least = omega arith; most = omega arith }) in
     let workers = given_between 1 64 1 (given workers_key words) (record { least = omega arith; most = omega arith }) in
     subst (λ (r : SpoolRequest). IsWithinBounds words r) all.request_is (record {
+      most_grain = grain.most;
       some_workers = workers.least;
       most_workers = workers.most;
       some_senders = all.some_sender;

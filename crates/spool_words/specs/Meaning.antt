@@ -5,8 +5,8 @@ use Rattle.std.specs.List.{position_from}
 use Rattle.diffusion_kernel.specs.declared.tables.Kernel.TheVariants.{Floyd}
 use Rattle.key_values.specs.Pairs.{is_key_value, key_of, value_of}
 use Rattle.job_words.specs.Meaning.{given, given_as, gives, refused}
-use Rattle.job_words.specs.Table.{kernel_key, profile_key, workers_key}
-use Rattle.job_words.specs.Values.{kernel_named, worker_count}
+use Rattle.job_words.specs.Table.{grain_key, kernel_key, profile_key, workers_key}
+use Rattle.job_words.specs.Values.{grain_value, kernel_named, worker_count}
 use Rattle.spool_words.specs.Keys.{SpoolKey, key_named, send_key}
 use Rattle.spool_words.specs.Names.{names_in}
 use Rattle.spool_words.specs.declared.faults.SpoolCause.{SpoolCause}
@@ -56,6 +56,7 @@ abbrev pub request_of : List (List ℕ) → SpoolRequest
 request_of words = record {
   profile_word = unwrap_or (given_profile_word words) 0;
   kernel = unwrap_or (given_as kernel_key kernel_named words) Floyd;
+  grain = unwrap_or (given_as grain_key grain_value words) 0;
   workers = unwrap_or (given_as workers_key worker_count words) 1;
   senders = sender_count words;
 }

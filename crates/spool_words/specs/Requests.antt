@@ -1,6 +1,7 @@
 -- What a request keeps to.
 use Rattle.std.specs.Prelude.{◌≡◌, ℕ, ◌≤◌, List, length}
 use Rattle.std.specs.List.{AllByRecursion}
+use Rattle.separation_definitions.specs.Grain.{most_grain}
 use Rattle.spool_words.specs.Meaning.{names_of}
 use Rattle.spool_words.specs.declared.reading.SpoolRequest.{SpoolRequest}
 
@@ -17,6 +18,7 @@ pub record AreNames (names : List (List ℕ)) : Type 0 where
 
 -- the numbers of a request, and the names that its words list
 pub record IsWithinBounds (words : List (List ℕ)) (request : SpoolRequest) : Type 0 where
+  pub most_grain : request.grain ≤ most_grain
   pub some_workers : 1 ≤ request.workers
   pub most_workers : request.workers ≤ 64
   pub some_senders : 1 ≤ request.senders

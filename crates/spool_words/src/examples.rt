@@ -10,13 +10,15 @@ ghost use Rattle.std.specs.Prelude.{Err, Ok, [], codes, ◌∷◌, ◌≡◌};
 /// Requests, the profile's name, and the names of each sender.
 pub fn requests()
     ensures bare { spool_meaning (codes "send=a" ∷ [])
-        ≡ Ok (record { profile_word = 0; kernel = Floyd; workers = 1; senders = 1 }) }
+        ≡ Ok (record { profile_word = 0; kernel = Floyd; grain = 0; workers = 1; senders = 1 }) }
     ensures desk { spool_meaning (codes "profile=tiny" ∷ codes "send=a,b" ∷ codes "send=c" ∷ [])
-        ≡ Ok (record { profile_word = 1; kernel = Floyd; workers = 1; senders = 2 }) }
+        ≡ Ok (record { profile_word = 1; kernel = Floyd; grain = 0; workers = 1; senders = 2 }) }
     ensures turned { spool_meaning (codes "send=a" ∷ codes "workers=64" ∷ codes "kernel=jjn" ∷ codes "profile=c" ∷ [])
-        ≡ Ok (record { profile_word = 4; kernel = Jarvis; workers = 64; senders = 1 }) }
+        ≡ Ok (record { profile_word = 4; kernel = Jarvis; grain = 0; workers = 64; senders = 1 }) }
+    ensures grained { spool_meaning (codes "grain=32" ∷ codes "send=a" ∷ [])
+        ≡ Ok (record { profile_word = 0; kernel = Floyd; grain = 32; workers = 1; senders = 1 }) }
     ensures twice { spool_meaning (codes "send=a" ∷ codes "send=a" ∷ [])
-        ≡ Ok (record { profile_word = 0; kernel = Floyd; workers = 1; senders = 2 }) }
+        ≡ Ok (record { profile_word = 0; kernel = Floyd; grain = 0; workers = 1; senders = 2 }) }
     ensures names { names_of (codes "send=a,b" ∷ codes "profile=tiny" ∷ codes "send=c,c" ∷ [])
         ≡ (codes "a" ∷ codes "b" ∷ []) ∷ (codes "c" ∷ codes "c" ∷ []) ∷ [] }
     ensures any_byte { names_of (codes "send=a=b,../c" ∷ []) ≡ (codes "a=b" ∷ codes "../c" ∷ []) ∷ [] }
@@ -36,6 +38,8 @@ pub fn refused_words()
     ensures repeated_first { spool_meaning (codes "workers=1" ∷ codes "workers=0" ∷ codes "send=a" ∷ [])
         ≡ Err (fault_at 2 RepeatedKey) }
     ensures bad_value { spool_meaning (codes "workers=0" ∷ codes "send=a" ∷ []) ≡ Err (fault_at 1 BadValue) }
+    ensures past_the_most_grain { spool_meaning (codes "send=a" ∷ codes "grain=33" ∷ [])
+        ≡ Err (fault_at 2 BadValue) }
     ensures no_names { spool_meaning (codes "send=" ∷ []) ≡ Err (fault_at 1 BadValue) }
     ensures an_empty_name { spool_meaning (codes "send=a,,b" ∷ []) ≡ Err (fault_at 1 BadValue) }
     ensures comma_at_the_end { spool_meaning (codes "send=a" ∷ codes "send=b," ∷ []) ≡ Err (fault_at 2 BadValue) }

@@ -2,7 +2,7 @@
 ghost use Rattle.std.specs.Prelude.{◌≡◌};
 
 use crate::faults::SpoolCause;
-use crate::values::{is_name, kernel_named, lists_names, worker_count};
+use crate::values::{grain_value, is_name, kernel_named, lists_names, worker_count};
 
 // The most senders of a run.
 const MOST_SENDERS: u32 = 8;
@@ -12,6 +12,7 @@ const MOST_SENDERS: u32 = 8;
 pub enum KeyName {
     Profile,
     Kernel,
+    Grain,
     Workers,
     Send,
 }
@@ -28,6 +29,7 @@ impl KeyName {
         match name {
             "profile" => Some(KeyName::Profile),
             "kernel" => Some(KeyName::Kernel),
+            "grain" => Some(KeyName::Grain),
             "workers" => Some(KeyName::Workers),
             "send" => Some(KeyName::Send),
             _ => None,
@@ -41,6 +43,7 @@ impl KeyName {
         match self {
             KeyName::Profile => "profile",
             KeyName::Kernel => "kernel",
+            KeyName::Grain => "grain",
             KeyName::Workers => "workers",
             KeyName::Send => "send",
         }
@@ -73,6 +76,7 @@ impl KeyName {
         match self {
             KeyName::Profile => is_name(value),
             KeyName::Kernel => kernel_named(value).is_some(),
+            KeyName::Grain => grain_value(value).is_some(),
             KeyName::Workers => worker_count(value).is_some(),
             KeyName::Send => lists_names(value),
         }

@@ -7,7 +7,7 @@ ghost use Rattle.std.specs.Prelude.{IfErr, Ok, OnOk, Some, [], length, slice_get
 use crate::faults::{SpoolCause, SpoolFault};
 use crate::given::{count_before, profile_word, value_given};
 use crate::keys::KeyName;
-use crate::values::{kernel_named, worker_count};
+use crate::values::{grain_value, kernel_named, worker_count};
 use diffusion_kernel::Kernel;
 use job_words::DEFAULT_PROFILE;
 use key_values::{cut_word, value_of};
@@ -21,6 +21,8 @@ pub struct SpoolRequest {
     pub profile_word: u32,
     /// The kernel of error diffusion.
     pub kernel: Kernel,
+    /// How much grain is put on amounts: 0 to 32.
+    pub grain: u8,
     /// How many workers: 1 to 64.
     pub workers: u8,
     /// How many senders: 1 to 8, one for each word `send=..`.
@@ -70,6 +72,9 @@ fn request_given(words: &Words, senders: u8) -> SpoolRequest
         kernel: value_given(words, KeyName::Kernel)
             .and_then(kernel_named)
             .unwrap_or(Kernel::Floyd),
+        grain: value_given(words, KeyName::Grain)
+            .and_then(grain_value)
+            .unwrap_or(0),
         workers: value_given(words, KeyName::Workers)
             .and_then(worker_count)
             .unwrap_or(1),
@@ -78,9 +83,9 @@ fn request_given(words: &Words, senders: u8) -> SpoolRequest
 }
 
 /// Reads the words of the spool, which are `key=value` in any order, and are counted from 1. The keys are `profile`,
-/// `kernel` and `workers`, each once at most, and `send` for each sender, up to eight times. The answer is the request,
-/// or the first refused word with its first cause in the order of `SpoolCause`; where no word is refused and none gives
-/// a sender, `NoSend` at the number after the last word.
+/// `kernel`, `grain` and `workers`, each once at most, and `send` for each sender, up to eight times. The answer is the
+/// request, or the first refused word with its first cause in the order of `SpoolCause`; where no word is refused and
+/// none gives a sender, `NoSend` at the number after the last word.
 pub fn read_spool_words(words: &Words) -> Result<SpoolRequest, SpoolFault>
     ensures { result ≡ spool_meaning words.now }
 {

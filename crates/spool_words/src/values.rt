@@ -1,5 +1,6 @@
 //! The values of keys.
-ghost use Rattle.job_words.specs.Values.{kernel_named as kernel_of, worker_count as workers_of};
+ghost use Rattle.job_words.specs.Values.{grain_value as grain_of, kernel_named as kernel_of};
+ghost use Rattle.job_words.specs.Values.{worker_count as workers_of};
 ghost use Rattle.spool_words.specs.Names.{are_names as are_names_of, is_name as is_name_of, names_in};
 ghost use Rattle.std.specs.Prelude.{length, ◌≡◌, ◌≤◌};
 
@@ -38,6 +39,13 @@ pub fn kernel_named(text: &str) -> Option<Kernel>
     ensures { result ≡ kernel_of text.now }
 {
     job_words::kernel_named(text)
+}
+
+/// How much grain is put on amounts: 0 to 32.
+pub fn grain_value(text: &str) -> Option<u8>
+    ensures { result ≡ grain_of text.now }
+{
+    job_words::grain_value(text)
 }
 
 /// How many workers: 1 to 64.

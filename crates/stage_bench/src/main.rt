@@ -1,6 +1,6 @@
 //! Runs the stages of printing by themselves, for `bench/run`, which times each:
 //!
-//!     stage_bench STAGE [profile=NAME] [kernel=NAME] [workers=NUMBER] < page.pwg
+//!     stage_bench STAGE [profile=NAME] [kernel=NAME] [grain=NUMBER] [workers=NUMBER] < page.pwg
 //!
 //! `read` reads the lines of the first page, and `separate` also separates their inks. `slabs` halftones the page in
 //! slabs as the driver does, by this many workers. `read` and `separate` print the number of lines, `slabs` the number
@@ -29,14 +29,14 @@ use std::process::ExitCode;
 use std::thread::Threads;
 use weave_base::{DirShelf, StdSource};
 
-// The stage's name, and the words of a print job with up to three words after it.
+// The stage's name, and the words of a print job with up to four words after it.
 fn words_of(rt: &HostRuntime) -> Option<(String, Words)> {
     let mut line = env::args(rt).ok()?.skip(1);
     let stage = line.next()?;
     let mut words = Words::make(rt.alloc());
     words.push("print").ok()?;
-    for word in line.take(3) {
-        if words.len() < 4 {
+    for word in line.take(4) {
+        if words.len() < 5 {
             words.push(&word).ok()?;
         }
     }
@@ -67,6 +67,7 @@ fn measure<R: Threads + Sync>(rt: &HostRuntime, threads: &R) -> Option<u128> {
         stage,
         &profile,
         job.kernel,
+        job.grain,
         workers,
         &mut input,
     );

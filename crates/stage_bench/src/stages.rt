@@ -44,6 +44,7 @@ pub fn run_stage<R: Threads + Sync, S: Source>(
     stage: PageStage,
     profile: &Profile,
     kernel: Kernel,
+    grain: u8,
     workers: u8,
     input: &mut S,
 ) -> Result<u64, StreamStop>
@@ -58,7 +59,7 @@ pub fn run_stage<R: Threads + Sync, S: Source>(
             workers,
             gate: &OpenGate,
         };
-        let page = read_page(&team, alloc, &mut reader, profile, kernel, input)?;
+        let page = read_page(&team, alloc, &mut reader, profile, kernel, grain, input)?;
         return match page {
             None => Ok(0),
             Some(page) => Ok(count_dots(&page.planes)),

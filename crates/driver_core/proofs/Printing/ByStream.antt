@@ -3,7 +3,7 @@ use Rattle.std.proofs.Common.{◌≡◌, ℕ, List, [], ◌∷◌, ◌++◌, Opt
 use Rattle.std.proofs.Common.{arith, append_assoc, All}
 use Rattle.std.proofs.lemmas.List.Elements.{All-get_or}
 use Rattle.std.proofs.lemmas.Option.{get_or_from_slice_get, slice_get_within}
-use Rattle.diffusion_definitions.specs.Diffusion.{Table}
+use Rattle.page_definitions.specs.Dots.{Screening}
 use Rattle.driver_answer.specs.Answers.{status_of}
 use Rattle.driver_answer.specs.declared.answer.Answer.TheVariants as answer
 use Rattle.driver_answer.specs.declared.answer.Answer.{Answer}
@@ -39,7 +39,7 @@ has_no_room accounts n over first room =
     omega (arith, has, first.full)
 
 -- a page that goes past a cap is not among pages that are admitted
-pub never_over : {way : Way} {p : Printer} {k : Table} {input out : Outside} {meters : Meters} {number total dots cap : ℕ} {bytes : List ℕ}
+pub never_over : {way : Way} {p : Printer} {k : Screening} {input out : Outside} {meters : Meters} {number total dots cap : ℕ} {bytes : List ℕ}
     {pages : List Page} {end : StreamEnd} → GoesOver way p k input out meters number total dots cap
     → input.before ≡ Some bytes → stream (wanted_by p) bytes ≡ record { pages = pages; end = end } → Admitted p k pages meters.before → ⊥
 never_over {p = p} {k = k} {meters = meters} {pages = pages} over told is admitted =
@@ -53,14 +53,14 @@ never_over {p = p} {k = k} {meters = meters} {pages = pages} over told is admitt
     (subst (All (HasRoom (page_dots over.page p k))) (sym over.pages_counted.counts) room)
 
 -- where a page has no room, not all pages were counted
-never_counted : {p : Printer} {k : Table} {input : Outside} {meters : Meters} (pages : List Page) (end : StreamEnd)
+never_counted : {p : Printer} {k : Screening} {input : Outside} {meters : Meters} (pages : List Page) (end : StreamEnd)
     → IsCapped p k input meters → IsStream p input.before pages end → CountsPages p k meters pages → ⊥
 never_counted {p} {k} {meters = meters} pages end is told counts =
     let P : List Page → Type 0 = λ pages. Admitted p k pages meters.before in
     let same = ap (λ (s : Stream). s.pages) (same_stream p pages end is.told is.is told) in
     is.full (admitted-next p k is.pages is.page is.later meters.before (subst P same counts.admitted))
 
-module _ (way : Way) (p : Printer) (k : Table) (input out : Outside) (meters : Meters) where
+module _ (way : Way) (p : Printer) (k : Screening) (input out : Outside) (meters : Meters) where
   pub valid_ends : (a : Answer) → PrintOutcome way p k input out meters a → AnswersBy IsValid 0 p k input out meters (status_of a)
   valid_ends answer.Done does is calm_in calm_out = inl refl
   valid_ends (answer.Input page line cause) does is calm_in calm_out =

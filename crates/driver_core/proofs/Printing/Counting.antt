@@ -1,6 +1,6 @@
 -- Pages that meters count, one more or none.
 use Rattle.std.proofs.Common.{◌≡◌, List, [], ◌∷◌, ◌++◌, All, map, refl, sym, ◌∙◌, ap, subst}
-use Rattle.diffusion_definitions.specs.Diffusion.{Table}
+use Rattle.page_definitions.specs.Dots.{Screening}
 use Rattle.dot_planes.specs.Tables.{DotTable, dot}
 use Rattle.ink_meter.specs.Accounts.{Account, HasRoom, added}
 use Rattle.ink_meter.specs.Counts.{halftone_dots, page_dots}
@@ -11,18 +11,18 @@ use Rattle.pwg_definitions.specs.Stream.{Page}
 use Rattle.printer_definitions.specs.declared.inks.InkCounts.{InkCounts}
 use Rattle.driver_core.specs.Printing.Outcome.{CountsPages}
 
-pub none_counted : (p : Printer) (k : Table) (accounts : List Account) → CountsPages p k (record { before = accounts; now = accounts }) []
+pub none_counted : (p : Printer) (k : Screening) (accounts : List Account) → CountsPages p k (record { before = accounts; now = accounts }) []
 none_counted p k accounts = record { admitted = tt; counts = refl }
 
 -- the dots that are counted of the planes of a page are the page's
-pub dots_counted : {p q : Printer} (k : Table) (t : DotTable) (page : Page) (n : InkCounts) → q ≡ p
+pub dots_counted : {p q : Printer} (k : Screening) (t : DotTable) (page : Page) (n : InkCounts) → q ≡ p
     → HasDots p (halftone page p k) t.width t.rows t.inks (dot t)
     → ((p : Printer) (h : Halftone) → p.inks ≡ q.inks → HasDots p h t.width t.rows t.inks (dot t) → n ≡ halftone_dots p h)
     → n ≡ page_dots page p k
 dots_counted {p} k t page n same has counts =
     counts p (halftone page p k) (ap (λ (r : Printer). r.inks) (sym same)) has ∙ page_dots-is p k page
 
-pub one_counted : (p : Printer) (k : Table)
+pub one_counted : (p : Printer) (k : Screening)
     (before now next : List Account) (pages : List Page) (page : Page) (n : InkCounts) → n ≡ page_dots page p k
     → CountsPages p k (record { before = before; now = now }) pages → All (HasRoom n) now → next ≡ map (added n) now
     → CountsPages p k (record { before = before; now = next }) (pages ++ page ∷ [])

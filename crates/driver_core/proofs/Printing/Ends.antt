@@ -4,7 +4,7 @@ use Rattle.std.proofs.Common.{Err, IsErrOf, IsOk, refl, sym, ◌∙◌, ap, subs
 use Rattle.std.specs.List.{AllByRecursion}
 use Rattle.std.specs.Io.KnownBytes.{Appends, Consumes, IsAtEnd, Keeps}
 use Rattle.std.proofs.KnownBytes.{Consumes-nil, Consumes-trans}
-use Rattle.diffusion_definitions.specs.Diffusion.{Table}
+use Rattle.page_definitions.specs.Dots.{Screening}
 use Rattle.driver_answer.specs.declared.answer.Answer.{Answer}
 use Rattle.driver_answer.specs.declared.answer.Answer.TheVariants as answer
 use Rattle.dot_planes.specs.Tables.{DotTable}
@@ -120,7 +120,7 @@ read_pages want bytes pages most number is =
     (subst P (ap (λ (s : Stream). s.pages) (is [])) (stream-pages want (bytes ++ [])))
 
 -- the job of pages prints them, and keeps to the way of the head
-job_of : {way : Way} {p : Printer} {k : Table} {pages : List Page} {before now : Option (List ℕ)} → CanPrintBy way p
+job_of : {way : Way} {p : Printer} {k : Screening} {pages : List Page} {before now : Option (List ℕ)} → CanPrintBy way p
     → AllByRecursion (IsPage (wanted_by p)) pages → Appends before now (job_bytes way p k pages) → WritesJob way p k pages before now
 job_of {way} {p} {k} {pages} can are writes = record {
   writes = writes;
@@ -129,11 +129,11 @@ job_of {way} {p} {k} {pages} can are writes = record {
 }
 
 -- the job of the pages that were read so far
-job_so_far : {way : Way} {p : Printer} {k : Table} {before left held now : Option (List ℕ)} {reader : PageReader} {number : ℕ} {done : List Page}
+job_so_far : {way : Way} {p : Printer} {k : Screening} {before left held now : Option (List ℕ)} {reader : PageReader} {number : ℕ} {done : List Page}
     → CanPrintBy way p → (so_far : StreamSoFar way p k before left held now reader number done) → WritesJob way p k done held now
 job_so_far {p = p} {done = done} can so_far = job_of can (read_pages (wanted_by p) so_far.bytes done _ _ so_far.is) so_far.written
 
-module _ {way : Way} {p : Printer} {k : Table} {before left held now : Option (List ℕ)} {reader : PageReader} {number : ℕ} {done : List Page} {page : Page}
+module _ {way : Way} {p : Printer} {k : Screening} {before left held now : Option (List ℕ)} {reader : PageReader} {number : ℕ} {done : List Page} {page : Page}
     (can : CanPrintBy way p) (read : StreamRead way p k before left held now reader number done page) where
   all_read : AllByRecursion (IsPage (wanted_by p)) (done ++ page ∷ [])
   all_read = read_pages (wanted_by p) read.bytes (done ++ page ∷ []) _ _ read.is
@@ -159,7 +159,7 @@ taken_pages p before text left unread bytes pages most number uses is more = rec
 }
 
 -- a read failed in the next page: what was taken has the pages that were read so far, and no other
-all_taken : {way : Way} {p : Printer} {k : Table} {before left held now : Option (List ℕ)} (left' : Option (List ℕ)) {old : PageReader}
+all_taken : {way : Way} {p : Printer} {k : Screening} {before left held now : Option (List ℕ)} (left' : Option (List ℕ)) {old : PageReader}
     {number : ℕ} {done : List Page} → (so_far : StreamSoFar way p k before left held now old number done)
     → TakesNoPage (wanted_by p) (page_of old) (text_of old left) left' → TakesAllPages (wanted_by p) before left' done
 all_taken {p = p} {before = before} {left} left' {old} {done = done} so_far none =
@@ -176,7 +176,7 @@ all_taken {p = p} {before = before} {left} left' {old} {done = done} so_far none
     }
 
 -- the stream does not begin as one
-pub no_sync : (way : Way) (p : Printer) (k : Table) (input out : Outside) (accounts : List Account) (why : StreamStop) → Keeps out.before out.now
+pub no_sync : (way : Way) (p : Printer) (k : Screening) (input out : Outside) (accounts : List Account) (why : StreamStop) → Keeps out.before out.now
     → OnInput {T = PageReader} (Err why) (λ page line cause. IfSome input.before (λ bytes. (want : Wanted)
     → stream want bytes ≡ record { pages = []; end = Fault page line cause }))
     → OnInput {T = PageReader} (Err why) (λ page line cause. (page ≡ 0) × (line ≡ 0))
@@ -227,7 +227,7 @@ pages-none : (want : Wanted) (most number : ℕ) → pages_from want most number
 unfolding pages_from
 pages-none want most number = refl
 
-bytes_end : {way : Way} {p : Printer} {k : Table} {before left held now : Option (List ℕ)} {old : PageReader} {number : ℕ} {done : List Page}
+bytes_end : {way : Way} {p : Printer} {k : Screening} {before left held now : Option (List ℕ)} {old : PageReader} {number : ℕ} {done : List Page}
     → (so_far : StreamSoFar way p k before left held now old number done)
     → stream (wanted_by p) so_far.bytes ≡ record { pages = done; end = Done }
 bytes_end {p = p} {done = done} so_far =
@@ -236,7 +236,7 @@ bytes_end {p = p} {done = done} so_far =
     ∙ ap (with_pages done) (pages-none (wanted_by p) (9999 - length done) (length done + 1))
     ∙ ap (λ ps. record { pages = ps; end = Done }) (append-nil done)
 
-pub stream_ends : {way : Way} {p : Printer} {k : Table} {before left held now : Option (List ℕ)} {old : PageReader} {number : ℕ} {done : List Page}
+pub stream_ends : {way : Way} {p : Printer} {k : Screening} {before left held now : Option (List ℕ)} {old : PageReader} {number : ℕ} {done : List Page}
     → (so_far : StreamSoFar way p k before left held now old number done) → IsAtEnd (text_of old left) → IsStream p before done Done
 stream_ends {p = p} {before = before} {left = left} {old = old} {done = done} so_far end = told before (text_of old left) so_far.used end
   where
@@ -247,7 +247,7 @@ stream_ends {p = p} {before = before} {left = left} {old = old} {done = done} so
         ap (stream (wanted_by p)) (uses ∙ ap (λ bs. so_far.bytes ++ bs) end ∙ append-nil so_far.bytes) ∙ bytes_end so_far
 
 -- or the text goes on with a fault
-pub stream_faults : {way : Way} {p : Printer} {k : Table} {before left held now : Option (List ℕ)} {old : PageReader} {number : ℕ} {done : List Page}
+pub stream_faults : {way : Way} {p : Printer} {k : Screening} {before left held now : Option (List ℕ)} {old : PageReader} {number : ℕ} {done : List Page}
     → (so_far : StreamSoFar way p k before left held now old number done) (page line : ℕ) (cause : InputCause)
     → IfSome (text_of old left) (λ text. pages_from (wanted_by p) (9999 - page_of old) (page_of old + 1) text
     ≡ record { pages = []; end = Fault page line cause }) → IsStream p before done (Fault page line cause)
@@ -267,7 +267,7 @@ stream_faults {p = p} {before = before} {left = left} {old = old} {done = done} 
         ∙ ap (λ ps. record { pages = ps; end = Fault page line cause }) (append-nil done)
 
 -- the stream stops in its next page
-pub page_stopped : (T : Type 0) {way : Way} {p : Printer} {k : Table} (input out : Outside) {meters : Meters} {left : Option (List ℕ)} {old : PageReader}
+pub page_stopped : (T : Type 0) {way : Way} {p : Printer} {k : Screening} (input out : Outside) {meters : Meters} {left : Option (List ℕ)} {old : PageReader}
     (new : PageReader) {number : ℕ} (pages : ℕ) {f1 : ℕ} {done : List Page} (why : StreamStop)
     → CanPrintBy way p → StreamSoFar way p k input.before left out.before out.now old number done → pages + 1 ≡ number
     → CountsPages p k meters done → OnInput {T = T} (Err why) (EndsSo (wanted_by p) old left)
@@ -309,7 +309,7 @@ page_stopped T {p = p} input out {left = left} {old} new pages {done = done} sto
 )
 
 -- the stream ended
-pub stream_done : {way : Way} {p : Printer} {k : Table} (input out : Outside) {meters : Meters} {left : Option (List ℕ)} {old : PageReader}
+pub stream_done : {way : Way} {p : Printer} {k : Screening} (input out : Outside) {meters : Meters} {left : Option (List ℕ)} {old : PageReader}
     (new : PageReader) {number : ℕ} (pages : ℕ) {done : List Page}
     → CanPrintBy way p → StreamSoFar way p k input.before left out.before out.now old number done → pages + 1 ≡ number
     → CountsPages p k meters done
@@ -347,7 +347,7 @@ begins p (Some xs) (Some ys) bytes pages most number uses is = (
       ∙ ap (λ (s : Stream). s.pages) (is ys),
 )
 
-module _ {way : Way} {p : Printer} {k : Table} (input out : Outside) {now : Option (List ℕ)} {reader : PageReader} {number : ℕ} (pages : ℕ)
+module _ {way : Way} {p : Printer} {k : Screening} (input out : Outside) {now : Option (List ℕ)} {reader : PageReader} {number : ℕ} (pages : ℕ)
     {done : List Page} {page : Page} (can : CanPrintBy way p) (read : StreamRead way p k input.before input.now out.before now reader number done page)
     (next : pages + 1 ≡ number) where
   taken_whole : TakesPages p input.before input.now (done ++ page ∷ [])
@@ -403,7 +403,7 @@ module _ {way : Way} {p : Printer} {k : Table} (input out : Outside) {now : Opti
       )
 
 -- it goes past a cap
-pub page_over : {way : Way} {p : Printer} {k : Table} (input out : Outside) {first last accounts : List Account} {reader : PageReader} {number : ℕ}
+pub page_over : {way : Way} {p : Printer} {k : Screening} (input out : Outside) {first last accounts : List Account} {reader : PageReader} {number : ℕ}
     (pages : ℕ) {done : List Page} {page : Page} {n : InkCounts} (a : Answer)
     → CanPrintBy way p → StreamRead way p k input.before input.now out.before out.now reader number done page → pages + 1 ≡ number
     → CountsPages p k (record { before = first; now = last }) done
@@ -431,7 +431,7 @@ page_over {way} {p} {k} input out {first} {last} {accounts} {reader} pages {done
     )
 
 -- the bytes of a page are those of its halftone
-pub page-bytes-is : (way : Way) {p : Printer} {k : Table} {old new : PageReader} {before now : Option (List ℕ)}
+pub page-bytes-is : (way : Way) {p : Printer} {k : Screening} {old new : PageReader} {before now : Option (List ℕ)}
     {form : PageForm} {t : DotTable} (halftoned : ReadsHalftone p k old new before now form t)
     → halftone_bytes_by way p (halftone halftoned.page p k) (form.height * row_units p) ≡ page_bytes_by way halftoned.page p k
 unfolding page_bytes_by

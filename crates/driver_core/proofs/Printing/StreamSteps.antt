@@ -3,7 +3,7 @@ use Rattle.std.proofs.Common.{◌≡◌, ℕ, suc, ◌+◌, ◌-◌, ◌≤◌, 
 use Rattle.std.proofs.Common.{subst, arith, append_assoc, append-nil, length-append, All, map}
 use Rattle.std.specs.Io.KnownBytes.{Appends, Consumes}
 use Rattle.std.proofs.KnownBytes.{Appends-nil, Appends-trans, Consumes-trans}
-use Rattle.diffusion_definitions.specs.Diffusion.{Table}
+use Rattle.page_definitions.specs.Dots.{Screening}
 use Rattle.dot_planes.specs.Tables.{DotTable, dot}
 use Rattle.page_definitions.specs.Dots.{Halftone, HasDots}
 use Rattle.page_definitions.specs.Ways.{page_bytes_by}
@@ -35,7 +35,7 @@ with_pages-append : (done : List Page) (page : Page) (s : Stream) → with_pages
 with_pages-append done page s = ap (λ ps. record { pages = ps; end = s.end }) (sym (append_assoc done (page ∷ []) s.pages))
 
 -- These pages of the input were read and their jobs written; the rest of the text is the rest of the stream.
-pub record StreamSoFar (way : Way) (p : Printer) (k : Table) (before left held now : Option (List ℕ)) (reader : PageReader)
+pub record StreamSoFar (way : Way) (p : Printer) (k : Screening) (before left held now : Option (List ℕ)) (reader : PageReader)
     (number : ℕ) (done : List Page) : Type 0 where
   pub bytes : List ℕ
   pub used : Consumes before (text_of reader left) bytes
@@ -51,7 +51,7 @@ stream-synced : (want : Wanted) (rest : List ℕ) → stream want (sync_word ++ 
 unfolding stream
 stream-synced want rest = refl
 
-pub stream_begin : {way : Way} {p : Printer} {k : Table} {before left held : Option (List ℕ)} (reader : PageReader)
+pub stream_begin : {way : Way} {p : Printer} {k : Screening} {before left held : Option (List ℕ)} (reader : PageReader)
     → Consumes before (text_of reader left) sync_word → page_of reader ≡ 0 → IsBetween reader → has_ended reader ≡ false
     → StreamSoFar way p k before left held held reader 1 []
 stream_begin {p = p} {held = held} reader sync none between unended = record {
@@ -71,7 +71,7 @@ page-some : (want : Wanted) (bytes : List ℕ) (page : Page)
 page-some want [] page is = absurd (let never : Broken 0 cause.Truncated ≡ Whole page [] = is [] in cc)
 page-some want (b ∷ bytes) page is = omega arith
 
-pub job-append : (way : Way) (p : Printer) (k : Table) (done : List Page) (page : Page)
+pub job-append : (way : Way) (p : Printer) (k : Screening) (done : List Page) (page : Page)
     → job_bytes way p k (done ++ page ∷ []) ≡ job_bytes way p k done ++ page_bytes_by way page p k
 job-append way p k [] page = append-nil (page_bytes_by way page p k)
 job-append way p k (first ∷ done) page =
@@ -79,7 +79,7 @@ job-append way p k (first ∷ done) page =
     ∙ sym (append_assoc (page_bytes_by way first p k) (job_bytes way p k done) (page_bytes_by way page p k))
 
 -- one more page was read
-pub record StreamRead (way : Way) (p : Printer) (k : Table) (before left held now : Option (List ℕ)) (reader : PageReader)
+pub record StreamRead (way : Way) (p : Printer) (k : Screening) (before left held now : Option (List ℕ)) (reader : PageReader)
     (number : ℕ) (done : List Page) (page : Page) : Type 0 where
   pub bytes : List ℕ
   pub used : Consumes before (text_of reader left) bytes
@@ -91,7 +91,7 @@ pub record StreamRead (way : Way) (p : Printer) (k : Table) (before left held no
   pub between : IsBetween reader
   pub unended : has_ended reader ≡ false
 
-pub next_read : {way : Way} {p : Printer} {k : Table} {before left left' held now : Option (List ℕ)} {old new : PageReader} {number : ℕ}
+pub next_read : {way : Way} {p : Printer} {k : Screening} {before left left' held now : Option (List ℕ)} {old new : PageReader} {number : ℕ}
     {done : List Page} {page : Page} → StreamSoFar way p k before left held now old number done
     → ReadsPage (wanted_by p) old new left left' page → IsBetween new → StreamRead way p k before left' held now new number done page
 next_read {p = p} {before = before} {left} {left'} {old = old} {new} {done = done} {page} so_far reads between = record {
@@ -117,7 +117,7 @@ next_read {p = p} {before = before} {left} {left'} {old = old} {new} {done = don
 }
 
 -- and its job written
-pub stream_written : {way : Way} {p : Printer} {k : Table} {before left held now : Option (List ℕ)} (now' : Option (List ℕ))
+pub stream_written : {way : Way} {p : Printer} {k : Screening} {before left held now : Option (List ℕ)} (now' : Option (List ℕ))
     {reader : PageReader} {number : ℕ} {done : List Page} {page : Page} → StreamRead way p k before left held now reader number done page
     → Appends now now' (page_bytes_by way page p k) → StreamSoFar way p k before left held now' reader (number + 1) (done ++ page ∷ [])
 stream_written {way} {p} {k} {held = held} {now} now' {done = done} {page} read wrote =
@@ -150,12 +150,12 @@ pages-first want bytes page is =
 -- ---- the same, on meters
 
 abbrev pub MeteredSoFar : (way : Way) (p : Printer)
-    (k : Table) (before left held now : Option (List ℕ)) (meters : Meters) (reader : PageReader) (number : ℕ) → Type 0
+    (k : Screening) (before left held now : Option (List ℕ)) (meters : Meters) (reader : PageReader) (number : ℕ) → Type 0
 MeteredSoFar way p k before left held now meters reader number =
     (done : List Page) × StreamSoFar way p k before left held now reader number done × CountsPages p k meters done
 
 -- a page was read, and the dots that are counted of its planes have room
-pub page_counted : {way : Way} {p q : Printer} {k : Table} {before left left' held now : Option (List ℕ)} {first last next : List Account}
+pub page_counted : {way : Way} {p q : Printer} {k : Screening} {before left left' held now : Option (List ℕ)} {first last next : List Account}
     {old new : PageReader} {number : ℕ} {form : PageForm} {t : DotTable} (n : InkCounts)
     → (so_far : MeteredSoFar way p k before left held now (record { before = first; now = last }) old number)
     → (halftoned : ReadsHalftone p k old new left left' form t) → IsBetween new → q ≡ p

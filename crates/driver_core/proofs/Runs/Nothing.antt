@@ -2,7 +2,7 @@
 use Rattle.std.proofs.Common.{ℕ, List, [], Option, None, Some, refl, ◌∙◌}
 use Rattle.std.specs.Io.KnownBytes.{Appends, Consumes, Keeps}
 use Rattle.std.proofs.KnownBytes.{Appends-nil, Consumes-kept, Consumes-nil}
-use Rattle.diffusion_definitions.specs.Diffusion.{Table}
+use Rattle.page_definitions.specs.Dots.{Screening}
 use Rattle.escp2_definitions.specs.Commands.{commands_from}
 use Rattle.escp2_definitions.specs.Machine.{execute_from}
 use Rattle.page_definitions.specs.declared.way.Way.{Way}
@@ -22,7 +22,7 @@ pub appends_none : (a b : Option (List ℕ)) → Keeps a b → Appends a b []
 appends_none a b kept = appends_kept a a b [] (Appends-nil a) kept
 
 -- the job of no page was written
-pub writes_none : (way : Way) (p : Printer) (k : Table) (held now : Option (List ℕ)) → Keeps held now → WritesJob way p k [] held now
+pub writes_none : (way : Way) (p : Printer) (k : Screening) (held now : Option (List ℕ)) → Keeps held now → WritesJob way p k [] held now
 unfolding commands_from execute_from
 writes_none way p k held now kept = record {
   writes = appends_none held now kept;

@@ -1,8 +1,7 @@
 -- What a printer reads of the stream that is made for it: the made pages, or a refusal of their header.
 use Rattle.std.proofs.Common.{◌≡◌, ℕ, ◌<◌, ◌≤◌, ◌^◌, ◌⊎◌, Bool, true, false, if◌then◌else◌, List, [], Ok, Err, IsOk, refl, sym, ◌∙◌, ap, subst, arith}
 use Rattle.std.specs.Io.KnownBytes.{Keeps}
-use Rattle.diffusion_definitions.specs.Diffusion.{Table}
-use Rattle.diffusion_kernel.specs.Tables.{table_of}
+use Rattle.page_definitions.specs.Dots.{Screening}
 use Rattle.driver_answer.specs.declared.answer.Answer.{Answer}
 use Rattle.driver_answer.specs.declared.answer.Answer.TheVariants as answer
 use Rattle.job_words.specs.declared.reading.Job.{Job}
@@ -32,7 +31,7 @@ use Rattle.separation_definitions.specs.Windows.{wanted_by}
 use Rattle.base_definitions.specs.Limits.{most_columns}
 use Rattle.driver_core.specs.declared.trial.summary.Totals.{Totals}
 use Rattle.driver_core.specs.Outside.{Outside}
-use Rattle.driver_core.specs.Runs.Fitting.{way_of}
+use Rattle.driver_core.specs.Runs.Fitting.{job_screening, way_of}
 use Rattle.driver_core.specs.Trying.Outcome.{IsMadeFault, PrintsMade, RefusesMade, TakesMade, TrialOutcome, job_form, job_pages, job_summary}
 use Rattle.driver_core.specs.Trying.Outcome.{made_bytes, made_check, made_sheets}
 use Rattle.driver_core.specs.Trying.Pages.{StopsTrying, TriesAll, stream_read}
@@ -126,7 +125,7 @@ trial_stopped job p out other reads stops keeps = absurd stops
 made_printed : (job : Job) (p : Printer) → CanPrint p → CanGo (way_of job) p → TakesMade job p
     → (stream_read job p).pages ≡ job_pages job → PrintsMade job p
 made_printed job p can go takes is =
-    let k : Table = table_of job.kernel in
+    let k : Screening = job_screening job in
     let P : List Page → Type 0 = ArePages p in
     let are : ArePages p (job_pages job) = subst P is (stream-pages (wanted_by p) (stream_made job p)) in
     let prints : Prints p k (job_pages job) (made_bytes job p) = ways-print (way_of job) p k (job_pages job) can go are in
@@ -140,9 +139,9 @@ made_printed job p can go takes is =
 
 -- the line of a trial whose pages were read to the end is the summary of the made pages, which are printed
 pub trial_line : (job : Job) (p : Printer) (totals : Totals) → CanPrint p → CanGo (way_of job) p → ReadsMade job p
-    → TriesAll (way_of job) p (table_of job.kernel) (stream_made job p) totals → PrintsMade job p × (totals_line totals ≡ job_summary job p)
+    → TriesAll (way_of job) p (job_screening job) (stream_made job p) totals → PrintsMade job p × (totals_line totals ≡ job_summary job p)
 trial_line job p totals can go reads all =
     let taken = made_taken job p reads all.takes in (
       made_printed job p can go taken.0 taken.1,
-      ap totals_line (all.are ∙ ap (totals_of (way_of job) p (table_of job.kernel)) taken.1),
+      ap totals_line (all.are ∙ ap (totals_of (way_of job) p (job_screening job)) taken.1),
     )

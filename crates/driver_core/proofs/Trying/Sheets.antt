@@ -2,7 +2,7 @@
 use Rattle.std.proofs.Common.{◌≡◌, ℕ, ◌+◌, ◌≤◌, Bool, true, false, cond, ◌&&◌, ◌==◌, List, [], ◌∷◌, ◌++◌, length}
 use Rattle.std.proofs.Common.{count_by, refl, sym, ◌∙◌, ap, arith}
 use Rattle.std.proofs.lemmas.Bool.{and_parts, eq-eqb, eqb-true}
-use Rattle.diffusion_definitions.specs.Diffusion.{Table}
+use Rattle.page_definitions.specs.Dots.{Screening}
 use Rattle.escp2_definitions.specs.Machine.{Dot, Sheet, is_at}
 use Rattle.ink_meter.specs.Accounts.{together}
 use Rattle.ink_meter.specs.Counts.{dots_of, ink_dots, page_dots}
@@ -133,14 +133,14 @@ exact-counts dots places exact once =
 
 -- ---- sheets of pages
 
-pub sheets-many : (p : Printer) (k : Table) (pages : List Page) (sheets : List Sheet) → AreSheets p k pages sheets
+pub sheets-many : (p : Printer) (k : Screening) (pages : List Page) (sheets : List Sheet) → AreSheets p k pages sheets
     → length pages ≡ length sheets
 sheets-many p k [] [] are = refl
 sheets-many p k [] (sheet ∷ sheets) are = absurd are
 sheets-many p k (page ∷ pages) [] are = absurd are
 sheets-many p k (page ∷ pages) (sheet ∷ sheets) are = omega (arith, sheets-many p k pages sheets are.1)
 
-pub sheets-dots : (p : Printer) (k : Table) (pages : List Page) (sheets : List Sheet) → CanPrint p → AreSheets p k pages sheets
+pub sheets-dots : (p : Printer) (k : Screening) (pages : List Page) (sheets : List Sheet) → CanPrint p → AreSheets p k pages sheets
     → dots_of_pages p k pages ≡ dots_of_sheets sheets
 sheets-dots p k [] [] can are = refl
 sheets-dots p k [] (sheet ∷ sheets) can are = absurd are

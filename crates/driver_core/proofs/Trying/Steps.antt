@@ -2,7 +2,7 @@
 use Rattle.std.proofs.Common.{◌≡◌, ℕ, ◌+◌, ◌-◌, ◌*◌, ◌<◌, ◌≤◌, ◌^◌, false, List, [], ◌∷◌, ◌++◌, length, Option, None, Some, refl, sym, ◌∙◌, ap}
 use Rattle.std.proofs.Common.{Err, IsErrOf, subst, arith, length-append}
 use Rattle.std.specs.Io.KnownBytes.{Consumes, IsAtEnd}
-use Rattle.diffusion_definitions.specs.Diffusion.{Table}
+use Rattle.page_definitions.specs.Dots.{Screening}
 use Rattle.ink_meter.specs.Accounts.{together}
 use Rattle.ink_meter.specs.Counts.{ink_dots, page_dots}
 use Rattle.ink_meter.proofs.Pages.{page_dots-is}
@@ -40,12 +40,12 @@ use Rattle.driver_core.proofs.Trying.Sheets.{same-counts}
 
 -- ---- one page more
 
-rasters-append : (way : Way) (p : Printer) (k : Table) (done : List Page) (page : Page)
+rasters-append : (way : Way) (p : Printer) (k : Screening) (done : List Page) (page : Page)
     → rasters_of_pages way p k (done ++ page ∷ []) ≡ rasters_of_pages way p k done + rasters_of (page_bytes_by way page p k)
 rasters-append way p k [] page = omega arith
 rasters-append way p k (first ∷ done) page = omega (arith, rasters-append way p k done page)
 
-dots-append : (p : Printer) (k : Table) (done : List Page) (page : Page)
+dots-append : (p : Printer) (k : Screening) (done : List Page) (page : Page)
     → dots_of_pages p k (done ++ page ∷ []) ≡ together (dots_of_pages p k done) (page_dots page p k)
 dots-append p k [] page = same-counts _ _ (omega arith) (omega arith) (omega arith) (omega arith)
 dots-append p k (first ∷ done) page =
@@ -58,7 +58,7 @@ dots-append p k (first ∷ done) page =
 -- ---- so far
 
 -- These pages were read, printed and executed.
-pub record TriedSoFar (way : Way) (p : Printer) (k : Table) (before left : Option (List ℕ)) (reader : PageReader) (number : ℕ)
+pub record TriedSoFar (way : Way) (p : Printer) (k : Screening) (before left : Option (List ℕ)) (reader : PageReader) (number : ℕ)
     (written : Written) (counter : JobCounter) : Type 0 where
   pub done : List Page
   pub so_far : StreamSoFar way p k before left None None reader number done
@@ -70,7 +70,7 @@ pub record TriedSoFar (way : Way) (p : Printer) (k : Table) (before left : Optio
   pub few_bytes : written.bytes ≤ number * 2 ^ 40
   pub few_rasters : written.rasters ≤ number * 2 ^ 32
 
-pub tried_begin : {way : Way} {p : Printer} {k : Table} {before left : Option (List ℕ)} (reader : PageReader) (counter : JobCounter)
+pub tried_begin : {way : Way} {p : Printer} {k : Screening} {before left : Option (List ℕ)} (reader : PageReader) (counter : JobCounter)
     → Consumes before (text_of reader left) sync_word → page_of reader ≡ 0 → IsBetween reader → has_ended reader ≡ false
     → IsBetweenPages p counter → sheets_of counter ≡ 0 → counts_of counter ≡ record { k = 0; c = 0; m = 0; y = 0 }
     → TriedSoFar way p k before left reader 1 (record { bytes = 0; rasters = 0 }) counter
@@ -87,7 +87,7 @@ tried_begin reader counter sync none between unended blank sheets counts = recor
 }
 
 -- one more page was read, printed and executed
-pub tried_page : {way : Way} {p : Printer} {k : Table} {before left left' : Option (List ℕ)} {written : Written} {old : JobCounter}
+pub tried_page : {way : Way} {p : Printer} {k : Screening} {before left left' : Option (List ℕ)} {written : Written} {old : JobCounter}
     (now reader : PageReader) (number : ℕ) (page : Page) (new : JobCounter) (sum : PageSum) (len : ℕ) → CanPrint p
     → (tried : TriedSoFar way p k before left now number written old)
     → ReadsPage (wanted_by p) now reader left left' page → IsBetween reader
@@ -120,7 +120,7 @@ tried_page {way} {p} {k} {before} {left} {left'} {written} {old} now reader numb
 -- ---- where it ends
 
 -- the stream stops in its next page
-pub page_stops : (T : Type 0) {way : Way} {p : Printer} {k : Table} {made : List ℕ} {left : Option (List ℕ)} {reader : PageReader}
+pub page_stops : (T : Type 0) {way : Way} {p : Printer} {k : Screening} {made : List ℕ} {left : Option (List ℕ)} {reader : PageReader}
     {number : ℕ} {written : Written} {counter : JobCounter} (why : StreamStop) (a : Answer)
     → TriedSoFar way p k (Some made) left reader number written counter
     → OnInput {T = T} (Err why) (EndsSo (wanted_by p) reader left)
@@ -133,7 +133,7 @@ page_stops T stop.Read a tried bad rose answered = absurd (omega (arith, (rose r
 page_stops T {p = p} {made = made} stop.Memory a tried bad rose answered = subst (StopsTrying p made) (sym answered) tt
 
 -- the stream ended
-pub all_tried : {way : Way} {p : Printer} {k : Table} {made : List ℕ} {left : Option (List ℕ)} {reader : PageReader} {number : ℕ}
+pub all_tried : {way : Way} {p : Printer} {k : Screening} {made : List ℕ} {left : Option (List ℕ)} {reader : PageReader} {number : ℕ}
     {written : Written} {counter : JobCounter} (totals : Totals)
     → TriedSoFar way p k (Some made) left reader number written counter → IsAtEnd (text_of reader left)
     → totals ≡ record {

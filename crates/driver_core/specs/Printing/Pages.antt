@@ -2,7 +2,7 @@
 use Rattle.std.specs.Prelude.{◌≡◌, ℕ, List, ◌++◌, Option, IfSome}
 use Rattle.std.specs.List.{flat_map}
 use Rattle.std.specs.Io.KnownBytes.{Consumes, IsAtEnd}
-use Rattle.diffusion_definitions.specs.Diffusion.{Table}
+use Rattle.page_definitions.specs.Dots.{Screening}
 use Rattle.page_definitions.specs.Ways.{page_bytes_by}
 use Rattle.page_definitions.specs.declared.way.Way.{Way}
 use Rattle.printer_definitions.specs.Printer.{Printer}
@@ -11,8 +11,8 @@ use Rattle.pwg_definitions.specs.Stream.{Page, StreamEnd, stream}
 use Rattle.pwg_definitions.specs.Stream.StreamEnd.{Done}
 
 -- the job of pages that are printed this way: their bytes, one page after another
-abbrev pub job_bytes : Way → Printer → Table → List Page → List ℕ
-job_bytes way p k pages = flat_map (λ page. page_bytes_by way page p k) pages
+abbrev pub job_bytes : Way → Printer → Screening → List Page → List ℕ
+job_bytes way p s pages = flat_map (λ page. page_bytes_by way page p s) pages
 
 -- the input, if the source reports its bytes, is a stream of these pages with this end
 abbrev pub IsStream : Printer → Option (List ℕ) → List Page → StreamEnd → Type 0

@@ -9,7 +9,13 @@ use Rattle.printer_profile.specs.Validity.{check}
 
 -- how a job prints by a profile
 abbrev pub setup_of : Job → Printer → PrintSetup
-setup_of job p = record { profile = p; kernel = job.kernel; way = way_of job; workers = job.workers }
+setup_of job p = record {
+  profile = p;
+  kernel = job.kernel;
+  grain = job.grain;
+  way = way_of job;
+  workers = job.workers;
+}
 
 -- Pages can be printed so: by a profile that passes its checks, by 1 to 64 workers, and by a head that can go its way.
 pub record CanBePrinted (how : PrintSetup) : Type 0 where

@@ -7,9 +7,11 @@ use Rattle.job_profile.specs.declared.stops.ProfileCause.{ProfileCause}
 use Rattle.job_profile.specs.declared.stops.ProfileCause.TheVariants as cause
 use Rattle.job_profile.specs.Named.{IsJobProfile, Refusal}
 use Rattle.job_words.specs.declared.reading.Job.{Job}
+use Rattle.page_definitions.specs.Dots.{Screening}
 use Rattle.page_definitions.specs.Ways.{CanGo}
 use Rattle.page_definitions.specs.declared.way.Way.{Way}
 use Rattle.page_definitions.specs.declared.way.Way.TheVariants.{Healed, Shingled, Woven}
+use Rattle.page_halftoner.specs.Screenings.{screening_of}
 use Rattle.printer_definitions.specs.Printer.{Printer}
 use Rattle.shingle_plan.specs.Fits.{Shingles}
 use Rattle.shingle_plan.specs.Shingles.{half}
@@ -23,6 +25,10 @@ way_around (nozzle ∷ dead) = Healed (record { items = nozzle ∷ dead })
 -- the way that a job asks for
 abbrev pub way_of : Job → Way
 way_of job = if job.shingle then Shingled else way_around job.dead.items
+
+-- the screening that a job asks for
+abbrev pub job_screening : Job → Screening
+job_screening job = screening_of job.kernel job.grain
 
 -- The dead nozzles of a way are in rising order.
 abbrev pub IsRisingWay : Way → Type 0

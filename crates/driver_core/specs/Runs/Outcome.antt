@@ -1,7 +1,6 @@
 -- The outcome of a run, by the meaning of its words.
 use Rattle.std.specs.Prelude.{◌≡◌, ℕ, ◌⊎◌, List, None, Result, Ok, Err}
 use Rattle.std.specs.Io.KnownBytes.{Appends, Keeps}
-use Rattle.diffusion_kernel.specs.Tables.{table_of}
 use Rattle.driver_answer.specs.declared.answer.Answer.{Answer}
 use Rattle.driver_answer.specs.declared.answer.Answer.TheVariants as answer
 use Rattle.driver_answer.specs.Answers.{line_of}
@@ -22,7 +21,7 @@ use Rattle.weave_base.specs.Parts.{AppendsPart}
 use Rattle.driver_core.specs.Caps.{with_cap}
 use Rattle.driver_core.specs.Outside.{HasFailed, HasRisen, IsCalm, Meters, Outside, Outsides, Texts, Untouched}
 use Rattle.driver_core.specs.Printing.Outcome.{PrintOutcome}
-use Rattle.driver_core.specs.Runs.Fitting.{IsProfileOf, way_of}
+use Rattle.driver_core.specs.Runs.Fitting.{IsProfileOf, job_screening, way_of}
 use Rattle.driver_core.specs.Showing.Outcome.{ShowOutcome}
 use Rattle.driver_core.specs.Trying.Outcome.{TrialOutcome}
 
@@ -37,7 +36,7 @@ metered job meters = record { before = with_cap job.cap meters.before; now = met
 
 -- the outcome of a command with its profile, on meters whose caps are set
 abbrev pub VerbOutcome : Verb → Job → Printer → Outside → Outside → Meters → Answer → Type 0
-VerbOutcome verb.Print job p input out meters a = PrintOutcome (way_of job) p (table_of job.kernel) input out meters a
+VerbOutcome verb.Print job p input out meters a = PrintOutcome (way_of job) p (job_screening job) input out meters a
 VerbOutcome verb.Dots job p input out meters a = (meters.now ≡ meters.before) × PlayOutcome p job.most input out a
 VerbOutcome verb.List job p input out meters a = ⊥
 VerbOutcome verb.Profile job p input out meters a =

@@ -1,13 +1,12 @@
 -- The outcome of a trial.
 use Rattle.std.specs.Prelude.{◌≡◌, ℕ, List, Result, Ok, Err, length}
 use Rattle.std.specs.Io.KnownBytes.{Appends, Keeps}
-use Rattle.diffusion_kernel.specs.Tables.{table_of}
 use Rattle.driver_answer.specs.declared.answer.Answer.{Answer}
 use Rattle.driver_answer.specs.declared.answer.Answer.TheVariants as answer
 use Rattle.driver_core.specs.declared.trial.summary.Totals.{Totals}
 use Rattle.driver_core.specs.Outside.{HasRisen, Outside}
 use Rattle.driver_core.specs.Printing.Pages.{job_bytes}
-use Rattle.driver_core.specs.Runs.Fitting.{way_of}
+use Rattle.driver_core.specs.Runs.Fitting.{job_screening, way_of}
 use Rattle.driver_core.specs.Trying.Summary.{dots_of_sheets, summary, totals_of}
 use Rattle.escp2_definitions.specs.Commands.{commands}
 use Rattle.escp2_definitions.specs.Machine.{Sheet, execute}
@@ -35,18 +34,18 @@ job_pages job = made_pages job.seed job.pages (job_form job)
 
 -- what these pages come to
 abbrev pub job_totals : Job → Printer → Totals
-job_totals job p = totals_of (way_of job) p (table_of job.kernel) (job_pages job)
+job_totals job p = totals_of (way_of job) p (job_screening job) (job_pages job)
 
 -- the bytes that print these pages, and the sheets that the printer makes of them
 abbrev pub made_bytes : Job → Printer → List ℕ
-made_bytes job p = job_bytes (way_of job) p (table_of job.kernel) (job_pages job)
+made_bytes job p = job_bytes (way_of job) p (job_screening job) (job_pages job)
 
 abbrev pub made_sheets : Job → Printer → List Sheet
 made_sheets job p = (execute p (commands (made_bytes job p)).entries).sheets
 
 -- the summary of the pages that a job has made
 abbrev pub job_summary : Job → Printer → List ℕ
-job_summary job p = summary (way_of job) p (table_of job.kernel) (job_pages job)
+job_summary job p = summary (way_of job) p (job_screening job) (job_pages job)
 
 -- what a printer's check says of the header of the made pages, which have the printer's resolution
 abbrev pub made_check : Job → Printer → Result PageForm HeaderFault
@@ -60,8 +59,8 @@ TakesMade job p = made_check job p ≡ Ok (job_form job)
 -- of the sheets that the printer makes of these bytes, and the dots of each ink on these sheets.
 pub record PrintsMade (job : Job) (p : Printer) : Type 0 where
   pub takes : TakesMade job p
-  pub prints : Prints p (table_of job.kernel) (job_pages job) (made_bytes job p)
-  pub passes : KeepTo (way_of job) p (table_of job.kernel) (job_pages job)
+  pub prints : Prints p (job_screening job) (job_pages job) (made_bytes job p)
+  pub passes : KeepTo (way_of job) p (job_screening job) (job_pages job)
   pub sheets : (job_totals job p).sheets ≡ length (made_sheets job p)
   pub dots : (job_totals job p).dots ≡ dots_of_sheets (made_sheets job p)
 

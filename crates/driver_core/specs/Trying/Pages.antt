@@ -1,6 +1,6 @@
 -- What trying pages comes to, page by page.
 use Rattle.std.specs.Prelude.{◌≡◌, ℕ, List, ◌<◌, ◌^◌, length}
-use Rattle.diffusion_definitions.specs.Diffusion.{Table}
+use Rattle.page_definitions.specs.Dots.{Screening}
 use Rattle.driver_answer.specs.declared.answer.Answer.{Answer}
 use Rattle.driver_answer.specs.declared.answer.Answer.TheVariants as answer
 use Rattle.driver_core.specs.declared.trial.summary.Totals.{Totals}
@@ -33,9 +33,9 @@ pub record TriesPage (way : Way) (p : Printer) (h : Halftone) (len : ℕ) (old n
   pub counts : CountsPage p (dots_wanted p h) old new
 
 -- The printer reads the made bytes to their end, and this is what their pages come to.
-pub record TriesAll (way : Way) (p : Printer) (k : Table) (made : List ℕ) (totals : Totals) : Type 0 where
+pub record TriesAll (way : Way) (p : Printer) (s : Screening) (made : List ℕ) (totals : Totals) : Type 0 where
   pub takes : (stream (wanted_by p) made).end ≡ Done
-  pub are : totals ≡ totals_of way p k (stream (wanted_by p) made).pages
+  pub are : totals ≡ totals_of way p s (stream (wanted_by p) made).pages
 
 -- why trying the pages of made bytes stops
 abbrev pub StopsTrying : Printer → List ℕ → Answer → Type 0

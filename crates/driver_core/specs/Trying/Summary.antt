@@ -1,7 +1,7 @@
 -- What `trial` writes.
 use Rattle.std.specs.Prelude.{ℕ, ◌+◌, List, [], ◌∷◌, ◌++◌, codes, decimal, length}
 use Rattle.std.specs.List.{sum_by}
-use Rattle.diffusion_definitions.specs.Diffusion.{Table}
+use Rattle.page_definitions.specs.Dots.{Screening}
 use Rattle.driver_core.specs.Printing.Pages.{job_bytes}
 use Rattle.escp2_definitions.specs.Commands.{Entry, commands}
 use Rattle.escp2_definitions.specs.Machine.{Sheet}
@@ -26,9 +26,9 @@ abbrev pub rasters_of : List ℕ → ℕ
 rasters_of bytes = sum_by (λ (entry : Entry). raster_count entry.command) (commands bytes).entries
 
 -- how many rasters the jobs of pages have that are printed this way
-abbrev pub rasters_of_pages : Way → Printer → Table → List Page → ℕ
-rasters_of_pages way p k [] = 0
-rasters_of_pages way p k (page ∷ pages) = rasters_of (page_bytes_by way page p k) + rasters_of_pages way p k pages
+abbrev pub rasters_of_pages : Way → Printer → Screening → List Page → ℕ
+rasters_of_pages way p s [] = 0
+rasters_of_pages way p s (page ∷ pages) = rasters_of (page_bytes_by way page p s) + rasters_of_pages way p s pages
 
 -- the line of a summary
 abbrev pub totals_line : Totals → List ℕ
@@ -38,9 +38,9 @@ totals_line t =
     ++ codes " m=" ++ decimal t.dots.m ++ codes " y=" ++ decimal t.dots.y ++ codes "\n"
 
 -- the dots of each ink that pages ask for
-abbrev pub dots_of_pages : Printer → Table → List Page → InkCounts
-dots_of_pages p k [] = record { k = 0; c = 0; m = 0; y = 0 }
-dots_of_pages p k (page ∷ pages) = together (page_dots page p k) (dots_of_pages p k pages)
+abbrev pub dots_of_pages : Printer → Screening → List Page → InkCounts
+dots_of_pages p s [] = record { k = 0; c = 0; m = 0; y = 0 }
+dots_of_pages p s (page ∷ pages) = together (page_dots page p s) (dots_of_pages p s pages)
 
 -- the dots of each ink on sheets
 abbrev pub dots_of_sheets : List Sheet → InkCounts
@@ -49,15 +49,15 @@ dots_of_sheets (sheet ∷ sheets) = together (ink_dots sheet.dots) (dots_of_shee
 
 -- what pages come to that are printed this way: how many they are, as many sheets, the bytes and rasters of their job,
 -- and the dots of each ink on all sheets
-abbrev pub totals_of : Way → Printer → Table → List Page → Totals
-totals_of way p k pages = record {
+abbrev pub totals_of : Way → Printer → Screening → List Page → Totals
+totals_of way p s pages = record {
   pages = length pages;
   sheets = length pages;
-  bytes = length (job_bytes way p k pages);
-  rasters = rasters_of_pages way p k pages;
-  dots = dots_of_pages p k pages;
+  bytes = length (job_bytes way p s pages);
+  rasters = rasters_of_pages way p s pages;
+  dots = dots_of_pages p s pages;
 }
 
 -- The summary of pages that are printed this way.
-abbrev pub summary : Way → Printer → Table → List Page → List ℕ
-summary way p k pages = totals_line (totals_of way p k pages)
+abbrev pub summary : Way → Printer → Screening → List Page → List ℕ
+summary way p s pages = totals_line (totals_of way p s pages)

@@ -1,11 +1,11 @@
 //! Printing one stream.
-ghost use Rattle.diffusion_kernel.specs.Tables.{table_of};
+ghost use Rattle.page_halftoner.specs.Screenings.{screening_of};
 ghost use Rattle.driver_answer.specs.Answers.{status_of};
 ghost use Rattle.driver_core.specs.Outside.{meters_of, outside_of};
 ghost use Rattle.driver_core.specs.Printing.Setup.{CanBePrinted, setup_of};
 ghost use Rattle.driver_core.specs.Printing.One.{AnswersBy, IsCapped, IsFaulty, IsValid};
 ghost use Rattle.driver_core.specs.Printing.Outcome.{PrintedOutcome};
-ghost use Rattle.driver_core.specs.Runs.Fitting.{way_of};
+ghost use Rattle.driver_core.specs.Runs.Fitting.{job_screening, way_of};
 ghost use Rattle.std.specs.Prelude.{◌≤◌};
 
 use crate::answers::answer_to;
@@ -40,22 +40,22 @@ pub fn print_stream<R: Threads + Sync, S: Source, K: Sink, G: Gate + Sync>(
     meters: &mut Vec<Box<dyn Meter>>,
 ) -> Printed
     requires can { CanBePrinted how.now }
-    ensures outcome { PrintedOutcome how.now.way how.now.profile (table_of how.now.kernel)
+    ensures outcome { PrintedOutcome how.now.way how.now.profile (screening_of how.now.kernel how.now.grain)
         (outside_of S.left S.faults input.old input.new)
         (outside_of K.held K.faults out.old out.new)
         (meters_of (λ meter. account meter) meters.old.items meters.new.items) result.pages result.answer }
     ensures later { K.faults out.old ≤ K.faults out.new }
     // Where nothing outside fails, a valid stream is printed, a faulty one refused, and a page that goes past a cap
     // too, unless memory runs out.
-    ensures valid { AnswersBy IsValid 0 how.now.profile (table_of how.now.kernel)
+    ensures valid { AnswersBy IsValid 0 how.now.profile (screening_of how.now.kernel how.now.grain)
         (outside_of S.left S.faults input.old input.new)
         (outside_of K.held K.faults out.old out.new)
         (meters_of (λ meter. account meter) meters.old.items meters.new.items) (status_of result.answer) }
-    ensures refused { AnswersBy IsFaulty 3 how.now.profile (table_of how.now.kernel)
+    ensures refused { AnswersBy IsFaulty 3 how.now.profile (screening_of how.now.kernel how.now.grain)
         (outside_of S.left S.faults input.old input.new)
         (outside_of K.held K.faults out.old out.new)
         (meters_of (λ meter. account meter) meters.old.items meters.new.items) (status_of result.answer) }
-    ensures capped { AnswersBy IsCapped 6 how.now.profile (table_of how.now.kernel)
+    ensures capped { AnswersBy IsCapped 6 how.now.profile (screening_of how.now.kernel how.now.grain)
         (outside_of S.left S.faults input.old input.new)
         (outside_of K.held K.faults out.old out.new)
         (meters_of (λ meter. account meter) meters.old.items meters.new.items) (status_of result.answer) }
@@ -74,8 +74,8 @@ pub fn print_stream<R: Threads + Sync, S: Source, K: Sink, G: Gate + Sync>(
 }
 
 /// Prints the pages of one stream by a profile, as `run` does once its words and its profile are accepted: `job` says
-/// by which kernel, with how many workers, and in which way the head goes over a page; its other words are not looked
-/// at. See `print_stream`.
+/// by which kernel and grain, with how many workers, and in which way the head goes over a page; its other words are
+/// not looked at. See `print_stream`.
 pub fn print_one<R: Threads + Sync, S: Source, K: Sink, G: Gate + Sync>(
     threads: &R,
     alloc: Global,
@@ -87,22 +87,22 @@ pub fn print_one<R: Threads + Sync, S: Source, K: Sink, G: Gate + Sync>(
     meters: &mut Vec<Box<dyn Meter>>,
 ) -> Printed
     requires { CanBePrinted (setup_of job.now profile.now) }
-    ensures outcome { PrintedOutcome (way_of job.now) profile.now (table_of job.now.kernel)
+    ensures outcome { PrintedOutcome (way_of job.now) profile.now (job_screening job.now)
         (outside_of S.left S.faults input.old input.new)
         (outside_of K.held K.faults out.old out.new)
         (meters_of (λ meter. account meter) meters.old.items meters.new.items) result.pages result.answer }
     ensures later { K.faults out.old ≤ K.faults out.new }
     // Where nothing outside fails, a valid stream is printed, a faulty one refused, and a page that goes past a cap
     // too, unless memory runs out.
-    ensures valid { AnswersBy IsValid 0 profile.now (table_of job.now.kernel)
+    ensures valid { AnswersBy IsValid 0 profile.now (job_screening job.now)
         (outside_of S.left S.faults input.old input.new)
         (outside_of K.held K.faults out.old out.new)
         (meters_of (λ meter. account meter) meters.old.items meters.new.items) (status_of result.answer) }
-    ensures refused { AnswersBy IsFaulty 3 profile.now (table_of job.now.kernel)
+    ensures refused { AnswersBy IsFaulty 3 profile.now (job_screening job.now)
         (outside_of S.left S.faults input.old input.new)
         (outside_of K.held K.faults out.old out.new)
         (meters_of (λ meter. account meter) meters.old.items meters.new.items) (status_of result.answer) }
-    ensures capped { AnswersBy IsCapped 6 profile.now (table_of job.now.kernel)
+    ensures capped { AnswersBy IsCapped 6 profile.now (job_screening job.now)
         (outside_of S.left S.faults input.old input.new)
         (outside_of K.held K.faults out.old out.new)
         (meters_of (λ meter. account meter) meters.old.items meters.new.items) (status_of result.answer) }

@@ -1,5 +1,5 @@
 //! Printing the pages of a stream.
-ghost use Rattle.diffusion_kernel.specs.Tables.{table_of};
+ghost use Rattle.page_halftoner.specs.Screenings.{screening_of};
 ghost use Rattle.driver_core.specs.Outside.{meters_of, outside_of};
 ghost use Rattle.driver_core.specs.Printing.Setup.{CanBePrinted};
 ghost use Rattle.driver_core.specs.Printing.Outcome.{PrintedOutcome, stream_answer as stream_answer_of};
@@ -43,7 +43,7 @@ pub fn print_pages<R: Threads + Sync, S: Source, K: Sink, G: Gate + Sync>(
     pages: &mut u32,
 ) -> Result<(), Answer>
     requires { CanBePrinted how.now }
-    ensures outcome { PrintedOutcome how.now.way how.now.profile (table_of how.now.kernel)
+    ensures outcome { PrintedOutcome how.now.way how.now.profile (screening_of how.now.kernel how.now.grain)
         (outside_of S.left S.faults input.old input.new)
         (outside_of K.held K.faults out.old out.new)
         (meters_of (λ meter. account meter) meters.old.items meters.new.items) pages.new (answer_of result) }
@@ -56,7 +56,15 @@ pub fn print_pages<R: Threads + Sync, S: Source, K: Sink, G: Gate + Sync>(
         Err(stop) => return Err(stream_answer(stop)),
     };
     'pages: for number in 1..MOST_PAGES + 2 {
-        let page = match read_page(team, alloc, &mut reader, &how.profile, how.kernel, input) {
+        let page = match read_page(
+            team,
+            alloc,
+            &mut reader,
+            &how.profile,
+            how.kernel,
+            how.grain,
+            input,
+        ) {
             Ok(Some(page)) => page,
             Ok(None) => return Ok(()),
             Err(stop) => return Err(stream_answer(stop)),

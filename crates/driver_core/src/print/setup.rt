@@ -15,6 +15,8 @@ pub struct PrintSetup {
     pub profile: Profile,
     /// The kernel of error diffusion.
     pub kernel: Kernel,
+    /// The grain that is put on amounts before diffusion; 0 for none.
+    pub grain: u8,
     /// How the head goes over a page.
     pub way: Way,
     /// How many workers: 1 to 64.
@@ -28,6 +30,7 @@ pub fn job_setup(job: &Job, profile: &Profile) -> PrintSetup
     PrintSetup {
         profile: *profile,
         kernel: job.kernel,
+        grain: job.grain,
         way: job_way(job),
         workers: job.workers,
     }

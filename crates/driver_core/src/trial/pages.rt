@@ -1,5 +1,5 @@
 //! Printing and executing made pages.
-ghost use Rattle.diffusion_kernel.specs.Tables.{table_of};
+ghost use Rattle.page_halftoner.specs.Screenings.{screening_of};
 ghost use Rattle.driver_core.specs.Outside.{outside_of};
 ghost use Rattle.driver_core.specs.Runs.Outcome.{answer_of};
 ghost use Rattle.driver_core.specs.Printing.Setup.{CanBePrinted, setup_of};
@@ -111,7 +111,7 @@ fn try_stream<R: Threads + Sync, G: Gate + Sync>(
     requires between { IsBetweenPages how.now.profile counter.old }
     requires sheets { sheets_of counter.old ≡ 0 }
     requires counts { counts_of counter.old ≡ record { k = 0; c = 0; m = 0; y = 0 } }
-    ensures ok { IfOk result (TriesAll how.now.way how.now.profile (table_of how.now.kernel) maker.old) }
+    ensures ok { IfOk result (TriesAll how.now.way how.now.profile (screening_of how.now.kernel how.now.grain) maker.old) }
     ensures err { IfErr result (StopsTrying how.now.profile maker.old) }
 {
     prove!(how.profile.nozzles <= 255);
@@ -125,7 +125,15 @@ fn try_stream<R: Threads + Sync, G: Gate + Sync>(
         rasters: 0,
     };
     'pages: for number in 1..MOST_PAGES + 2 {
-        let page = match read_page(team, alloc, &mut reader, &how.profile, how.kernel, maker) {
+        let page = match read_page(
+            team,
+            alloc,
+            &mut reader,
+            &how.profile,
+            how.kernel,
+            how.grain,
+            maker,
+        ) {
             Ok(Some(page)) => page,
             Ok(None) => return Ok(totals(number - 1, written, counter)),
             Err(stop) => return Err(stream_answer(stop)),

@@ -41,7 +41,7 @@ fn trial_refuses_a_page_too_narrow(rt: HostRuntime) -> Result<(), Fail> {
     refuse_unread(&rt, rt.alloc(), &NARROW)
 }
 
-const REFUSED: [Refusal; 12] = [
+const REFUSED: [Refusal; 14] = [
     (
         &["trial", "profile=tiny", "dead=3"],
         2,
@@ -59,6 +59,8 @@ const REFUSED: [Refusal; 12] = [
         1,
         b"usage: word 2: BadValue\n",
     ),
+    (&["trial", "grain=33"], 1, b"usage: word 2: BadValue\n"),
+    (&["trial", "grain="], 1, b"usage: word 2: BadValue\n"),
     (&["trial", "kind=grey"], 1, b"usage: word 2: BadValue\n"),
     (&["trial", "cap=1"], 1, b"usage: word 2: UnknownKey\n"),
     (&["trial", "most=1"], 1, b"usage: word 2: UnknownKey\n"),

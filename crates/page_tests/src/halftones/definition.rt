@@ -1,5 +1,5 @@
 //! A page's dots by the definitions, dot by dot, as directly as possible.
-ghost use Rattle.std.specs.Prelude.{◌≤◌};
+ghost use Rattle.std.specs.Prelude.{◌<◌, ◌≤◌};
 
 use diffusion_kernel::Kernel;
 use dot_planes::Planes;
@@ -142,16 +142,48 @@ fn tone_of(curve: &[u16; 17], a: i32) -> i32 {
     before.wrapping_add(more).min(255)
 }
 
-// The amount of an ink at a pixel of the page, by the definition.
-fn amount_at(p: &Profile, kind: Kind, ink: Ink, x: u32, y: u32) -> i32 {
-    let place = match ink {
+// The number of an ink in the order black, cyan, magenta, yellow.
+fn number_of(ink: Ink) -> usize
+    ensures { result < 4 }
+{
+    match ink {
         Ink::Black => 0,
         Ink::Cyan => 1,
         Ink::Magenta => 2,
         Ink::Yellow => 3,
-    };
+    }
+}
+
+// The amount of an ink at a pixel of the page, by the definition.
+fn amount_at(p: &Profile, kind: Kind, ink: Ink, x: u32, y: u32) -> i32 {
+    let place = number_of(ink);
     let tone = tone_of(&CURVES[place], given_at(p.inks, kind, ink, x, y));
     tone.wrapping_mul(i32::from(LIMITS[place])) / 255
+}
+
+// An amount with grain, at column x and row y of the window, by the definition.
+fn grained(grain: u8, ink: Ink, x: u32, y: u32, amount: i32) -> i32 {
+    let across = u64::from(x).wrapping_mul(49471);
+    let down = u64::from(y).wrapping_mul(37344);
+    let beside = (number_of(ink) as u64).wrapping_mul(16384);
+    let place = across.wrapping_add(down).wrapping_add(beside) % 65536;
+    let left = i32::from(LIMITS[number_of(ink)]).wrapping_sub(amount);
+    let reach = i32::from(grain).min(amount).min(left);
+    let values = reach.wrapping_mul(2).wrapping_add(1);
+    let step = (place as i32).wrapping_mul(values) / 65536;
+    amount.wrapping_add(step).wrapping_sub(reach)
+}
+
+/// How a page is halftoned.
+#[derive(Clone, Copy)]
+pub(crate) struct Screening {
+    pub(crate) kernel: Kernel,
+    pub(crate) grain: u8,
+}
+
+/// By a kernel alone.
+pub(crate) fn plain(kernel: Kernel) -> Screening {
+    Screening { kernel, grain: 0 }
 }
 
 // How many errors are kept: those of two rows and more, where a row has up to 4,000.
@@ -185,7 +217,7 @@ fn given(kernel: Kernel, errors: &[i32], width: u32, x: u32, y: u32) -> i32 {
 pub(crate) fn wrong_dots(
     p: &Profile,
     f: PageForm,
-    kernel: Kernel,
+    how: Screening,
     copies: u32,
     planes: &Planes,
     i: u8,
@@ -200,9 +232,10 @@ pub(crate) fn wrong_dots(
         for x in 0..width {
             let line = y.wrapping_add(1) / copies;
             let amount = amount_at(p, f.kind, ink, x.wrapping_add(2), line);
+            let amount = grained(how.grain, ink, x, y, amount);
             let value = amount
                 .wrapping_mul(16)
-                .wrapping_add(given(kernel, &errors, width, x, y));
+                .wrapping_add(given(how.kernel, &errors, width, x, y));
             let on = value >= 2040;
             let at = y.wrapping_mul(width).wrapping_add(x) as usize;
             errors[at % KEPT] = if on { value.wrapping_sub(4080) } else { value };

@@ -2,7 +2,7 @@
 ghost use Rattle.std.specs.Prelude.{◌≤◌};
 
 use crate::checks::is_taken;
-use crate::halftones::definition::{CURVES, LIMITS, byte_at, wrong_dots};
+use crate::halftones::definition::{CURVES, LIMITS, Screening, byte_at, plain, wrong_dots};
 use diffusion_kernel::Kernel;
 use dot_planes::Planes;
 use page_halftoner::Halftoner;
@@ -57,7 +57,7 @@ fn planes_of<R: Threads + Sync>(
     alloc: Global,
     p: &Profile,
     f: PageForm,
-    kernel: Kernel,
+    how: Screening,
     copies: u32,
     workers: u8,
 ) -> Option<Planes>
@@ -67,7 +67,7 @@ fn planes_of<R: Threads + Sync>(
     if p.check().is_err() || !is_taken(p, f) || f.bytes_per_line > LONGEST as u32 {
         return None;
     }
-    let mut h = Halftoner::begin(alloc, p, f, kernel).ok()?;
+    let mut h = Halftoner::begin(alloc, p, f, how.kernel, how.grain).ok()?;
     let team = Team {
         threads: rt,
         workers,
@@ -93,17 +93,17 @@ fn wrong_in<R: Threads + Sync>(
     alloc: Global,
     p: &Profile,
     f: PageForm,
-    kernel: Kernel,
+    how: Screening,
     copies: u32,
     workers: u8,
 ) -> Option<(u8, u32, u32, u32)>
     requires workers { (1 ≤ workers) × (workers ≤ 64) }
     requires copies { 1 ≤ copies }
 {
-    let planes = planes_of(rt, alloc, p, f, kernel, copies, workers)?;
+    let planes = planes_of(rt, alloc, p, f, how, copies, workers)?;
     let mut wrong = 0u32;
     for i in 0..p.inks.count() {
-        let more = wrong_dots(p, f, kernel, copies, &planes, i, p.inks.at(i));
+        let more = wrong_dots(p, f, how, copies, &planes, i, p.inks.at(i));
         wrong = wrong.saturating_add(more);
     }
     Some((planes.inks(), planes.width(), planes.rows(), wrong))
@@ -117,12 +117,12 @@ const KINDS: [Kind; 5] = [
     Kind::Cmyk8,
 ];
 
-// All small pages on a printer by a kernel.
-fn each_page<R: Abort + Threads + Sync>(rt: &R, alloc: Global, p: &Profile, kernel: Kernel) {
+// All small pages on a printer.
+fn each_page<R: Abort + Threads + Sync>(rt: &R, alloc: Global, p: &Profile, how: Screening) {
     for &kind in &KINDS {
         for (width, height) in [(1, 5), (7, 256), (8, 257), (9, 515)] {
             let f = form(kind, width + 3, height + 3);
-            let found = wrong_in(rt, alloc, p, f, kernel, 1, 2);
+            let found = wrong_in(rt, alloc, p, f, how, 1, 2);
             let want = Some((p.inks.count(), width, height, 0));
             assert!(rt; found == want, "{kind:?} at {width} by {height}: {found:?}");
         }
@@ -132,9 +132,41 @@ fn each_page<R: Abort + Threads + Sync>(rt: &R, alloc: Global, p: &Profile, kern
 #[test]
 fn small_pages_have_the_dots_of_the_definition(rt: HostRuntime) {
     let alloc = rt.alloc();
-    each_page(&rt, alloc, &printer(InkSet::K), Kernel::Floyd);
-    each_page(&rt, alloc, &printer(InkSet::Cmy), Kernel::Jarvis);
-    each_page(&rt, alloc, &printer(InkSet::Cmyk), Kernel::Stucki);
+    each_page(&rt, alloc, &printer(InkSet::K), plain(Kernel::Floyd));
+    each_page(&rt, alloc, &printer(InkSet::Cmy), plain(Kernel::Jarvis));
+    each_page(&rt, alloc, &printer(InkSet::Cmyk), plain(Kernel::Stucki));
+}
+
+// All small pages on a printer by a kernel with grain.
+fn with_grain<R: Abort + Threads + Sync>(rt: &R, alloc: Global, p: &Profile, kernel: Kernel) {
+    for grain in [1, 16, 32] {
+        each_page(rt, alloc, p, Screening { kernel, grain });
+    }
+}
+
+// The tallest page has more than two slabs.
+#[test]
+fn small_pages_have_their_grain(rt: HostRuntime) {
+    for inks in [InkSet::K, InkSet::Cmy, InkSet::Cmyk] {
+        for kernel in [Kernel::Floyd, Kernel::Jarvis, Kernel::Stucki] {
+            with_grain(&rt, rt.alloc(), &printer(inks), kernel);
+        }
+    }
+}
+
+// The places of the grain go round many times on a wide page, and equal lines get other grain.
+#[test]
+fn a_wide_page_has_its_grain(rt: HostRuntime) {
+    let p = printer(InkSet::Cmyk);
+    let f = form(Kind::Gray8, 3003, 133);
+    for (copies, workers) in [(1, 1), (40, 2)] {
+        let how = Screening {
+            kernel: Kernel::Jarvis,
+            grain: 16,
+        };
+        let found = wrong_in(&rt, rt.alloc(), &p, f, how, copies, workers);
+        assert!(rt; found == Some((4, 3000, 130, 0)), "by {workers}: {found:?}");
+    }
 }
 
 // A wide page of five bands, which are one slab.
@@ -143,7 +175,7 @@ fn errors_cross_the_bands_of_a_wide_page(rt: HostRuntime) {
     let p = printer(InkSet::Cmyk);
     let f = form(Kind::Gray8, 3003, 133);
     for workers in [1, 2] {
-        let found = wrong_in(&rt, rt.alloc(), &p, f, Kernel::Floyd, 1, workers);
+        let found = wrong_in(&rt, rt.alloc(), &p, f, plain(Kernel::Floyd), 1, workers);
         assert!(rt; found == Some((4, 3000, 130, 0)), "by {workers}: {found:?}");
     }
 }
@@ -155,7 +187,7 @@ fn lines_that_stand_more_than_once(rt: HostRuntime) {
     for &kind in &KINDS {
         for copies in [2, 3, 40] {
             let f = form(kind, 203, 73);
-            let found = wrong_in(&rt, rt.alloc(), &p, f, Kernel::Floyd, copies, 2);
+            let found = wrong_in(&rt, rt.alloc(), &p, f, plain(Kernel::Floyd), copies, 2);
             assert!(rt;
                 found == Some((4, 200, 70, 0)),
                 "{kind:?} by {copies}: {found:?}"
@@ -171,7 +203,7 @@ fn rows_with_dots<R: Threads + Sync>(rt: &R, alloc: Global, height: u32) -> Opti
     if p.check().is_err() || !is_taken(&p, f) || f.bytes_per_line != 1 || f.height != height {
         return None;
     }
-    let mut h = Halftoner::begin(alloc, &p, f, Kernel::Floyd).ok()?;
+    let mut h = Halftoner::begin(alloc, &p, f, Kernel::Floyd, 0).ok()?;
     let team = Team {
         threads: rt,
         workers: 1,

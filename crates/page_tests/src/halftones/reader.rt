@@ -59,7 +59,7 @@ fn read<R: Abort + Threads + Sync>(
         workers: 2,
         gate: &OpenGate,
     };
-    Ok(read_page(&team, alloc, &mut reader, &TINY1, Kernel::Floyd, &mut s))
+    Ok(read_page(&team, alloc, &mut reader, &TINY1, Kernel::Floyd, 0, &mut s))
 }
 
 #[test]

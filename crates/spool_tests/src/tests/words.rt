@@ -77,6 +77,7 @@ const REQUESTS: [(&[&str], SpoolRequest, &str, &str); 4] = [
         SpoolRequest {
             profile_word: 0,
             kernel: Kernel::Floyd,
+            grain: 0,
             workers: 1,
             senders: 1,
         },
@@ -88,6 +89,7 @@ const REQUESTS: [(&[&str], SpoolRequest, &str, &str); 4] = [
         SpoolRequest {
             profile_word: 1,
             kernel: Kernel::Floyd,
+            grain: 0,
             workers: 1,
             senders: 2,
         },
@@ -105,6 +107,7 @@ const REQUESTS: [(&[&str], SpoolRequest, &str, &str); 4] = [
         SpoolRequest {
             profile_word: 5,
             kernel: Kernel::Stucki,
+            grain: 0,
             workers: 64,
             senders: 2,
         },
@@ -112,10 +115,11 @@ const REQUESTS: [(&[&str], SpoolRequest, &str, &str); 4] = [
         "x=y x=y ;x=y ;",
     ),
     (
-        &["workers=7", "send=../c,.,\u{e9}", "kernel=jjn"],
+        &["workers=7", "grain=32", "send=../c,.,\u{e9}", "kernel=jjn"],
         SpoolRequest {
             profile_word: 0,
             kernel: Kernel::Jarvis,
+            grain: 32,
             workers: 7,
             senders: 1,
         },
@@ -159,7 +163,7 @@ fn each_bad_word_has_its_cause(rt: HostRuntime) -> Result<(), Fail> {
 
 #[test]
 fn each_cause_stands_at_each_key(rt: HostRuntime) -> Result<(), Fail> {
-    const LINES: [Refused; 16] = [
+    const LINES: [Refused; 21] = [
         (&["send=a", "profile"], 2, SpoolCause::NotKeyValue),
         (&["send=a", "profiles=c"], 2, SpoolCause::UnknownKey),
         (
@@ -176,6 +180,15 @@ fn each_cause_stands_at_each_key(rt: HostRuntime) -> Result<(), Fail> {
             SpoolCause::RepeatedKey,
         ),
         (&["kernel=floyd", "send=a"], 1, SpoolCause::BadValue),
+        (&["send=a", "grain"], 2, SpoolCause::NotKeyValue),
+        (&["send=a", "grains=1"], 2, SpoolCause::UnknownKey),
+        (
+            &["grain=0", "grain=16", "send=a"],
+            2,
+            SpoolCause::RepeatedKey,
+        ),
+        (&["grain=33", "send=a"], 1, SpoolCause::BadValue),
+        (&["send=a", "grain=x"], 2, SpoolCause::BadValue),
         (&["send=a", "workers"], 2, SpoolCause::NotKeyValue),
         (&["send=a", "worker=1"], 2, SpoolCause::UnknownKey),
         (

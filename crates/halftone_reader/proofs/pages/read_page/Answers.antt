@@ -1,7 +1,8 @@
 use Rattle.std.proofs.Common.{◌≡◌, ap, arith, false, inl, inr, sym, true, ◌∙◌, Err, Option}
 use Rattle.std.proofs.lemmas.Result.{err_from_is_err_and}
 use Rattle.wavefront_team.specs.SoFar.{dots_in}
-use Rattle.page_halftoner.proofs.Lines.{at_top}
+use Rattle.grained_rows.specs.declared.grain.InkGrain.{InkGrain}
+use Rattle.page_halftoner.proofs.Lines.{at_top, own_grain}
 use Rattle.page_halftoner.specs.Halftones.{IsFull, joined}
 use Rattle.pwg_definitions.specs.declared.pages.PageForm.{PageForm}
 use Rattle.separation_definitions.specs.Windows.{wanted_by}
@@ -38,14 +39,16 @@ returns-in_err-spare-clause-taken g c = λ is.
 
 -- no line of the page has come
 started : (g : _) (c : After-fill g)
-    → HalftonedSoFar (begun c.args.profile.now c.args.kernel c.in-Some.form c.args.reader.now (g.S.Source.left c.args.source.now))
+    → HalftonedSoFar (begun c.args.profile.now c.args.kernel c.args.grain c.in-Some.form c.args.reader.now
+    (g.S.Source.left c.args.source.now))
     c.next_page.new.self (g.S.Source.left c.next_page.new.source) c.in_ok-filler.filler c.in_ok-diffuser.diffuser
 started g c =
     let begins = rw (c.in-Some.is, c.wanted.ensures) at c.in_ok-form.ensures.page in
     so_far_begin _ c.next_page.new.self (g.S.Source.left c.next_page.new.source) c.in_ok-filler.filler c.in_ok-diffuser.diffuser begins
-    c.requires.unended c.in_ok-form.ensures.going c.in_ok-filler.ensures.page c.in_ok-diffuser.ensures.kernel c.in_ok-filler.ensures.none.0
+    c.requires.unended c.in_ok-form.ensures.going c.in_ok-filler.ensures.page c.in_ok-diffuser.ensures.kernel
+    (ap (λ (gr : InkGrain). gr.grain) c.in_ok-diffuser.ensures.grain) c.in_ok-filler.ensures.none.0
     (at_top (joined c.in_ok-filler.filler c.in_ok-diffuser.diffuser) c.in_ok-filler.ensures.none.0 c.in_ok-filler.ensures.none.1
-    c.in_ok-diffuser.ensures.top c.in_ok-diffuser.ensures.blank)
+    (own_grain _ _ _ _ c.in_ok-filler.ensures.page.0 c.in_ok-diffuser.ensures.grain) c.in_ok-diffuser.ensures.top c.in_ok-diffuser.ensures.blank)
 
 pub returns-in_err-fill-clause-input : goal.returns-in_err-fill-clause-input
 returns-in_err-fill-clause-input g c =

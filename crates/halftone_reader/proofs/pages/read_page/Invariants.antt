@@ -6,7 +6,7 @@ use Rattle.halftone_reader.proofs.pages.read_page.Given as goal
 
 abbrev pub invariant-slabs : goal.invariant-slabs
 invariant-slabs g l = record {
-  page : HalftonedSoFar (begun l.fn.profile l.fn.kernel l.form l.fn.reader (g.S.Source.left l.fn.source))
+  page : HalftonedSoFar (begun l.fn.profile l.fn.kernel l.fn.grain l.form l.fn.reader (g.S.Source.left l.fn.source))
       l.reader (g.S.Source.left l.source) l.filler l.diffuser;
   done : IsFull l.filler ⊎ (l.filler.count ≡ l.filler.form.height);
   room : HasRoom l.form l.fn.profile (dots_in l.diffuser.dots);

@@ -42,7 +42,7 @@ returns-clause-prepared g c =
     record {
       request = c.in_ok-request.request;
       means = sym c.in_ok-request.ensures;
-      kernel_is = refl;
+      screening_is = refl;
       workers_is = refl;
       profile_is = subst (λ (name : List ℕ). IsJobProfile told name (Ok c.in_ok-profile.profile)) c.profile_name.ensures c.in_ok-profile.ensures.found;
       files = files;

@@ -1,5 +1,5 @@
 use Rattle.std.proofs.Common.{◌≡◌, ◌≢◌, ◌≤◌, All, length, map, vec_capacity}
-use Rattle.diffusion_kernel.specs.Tables.{table_of}
+use Rattle.page_halftoner.specs.Screenings.{screening_of}
 use Rattle.spool_queue.specs.Passes.{IsPrinterOf, senders_of, taken_of}
 use Rattle.spool_core.specs.Printed.{AreDone, between}
 use Rattle.spool_core.proofs.printing.print_jobs.Given as goal
@@ -8,7 +8,7 @@ abbrev pub invariant-loop : goal.invariant-loop
 invariant-loop g l = record {
   pass : IsPrinterOf l.spool l.printer;
   senders : senders_of l.printer ≡ senders_of l.fn.printer;
-  prints : AreDone l.fn.how.profile (table_of l.fn.how.kernel) (taken_of l.printer) l.done.items
+  prints : AreDone l.fn.how.profile (screening_of l.fn.how.kernel l.fn.how.grain) (taken_of l.printer) l.done.items
       (between (g.K.Sink.held l.fn.out) (g.K.Sink.faults l.fn.out) (map (λ m. (goal.Meter-dyn g (m.vtable, m.value)).account m.value) l.fn.meters.items))
       (between (g.K.Sink.held l.out) (g.K.Sink.faults l.out) (map (λ m. (goal.Meter-dyn g (m.vtable, m.value)).account m.value) l.meters.items));
   count_is : length (taken_of l.printer) ≡ l.counter;

@@ -1,5 +1,5 @@
 use Rattle.std.proofs.Common.{◌≡◌, ◌≤◌, ◌++◌, List, length, arith, subst}
-use Rattle.diffusion_kernel.specs.Tables.{table_of}
+use Rattle.page_halftoner.specs.Screenings.{screening_of}
 use Rattle.driver_core.specs.Outside.{meters_of, outside_of}
 use Rattle.spool_queue.specs.Jobs.{AreSent, Stream, count_sent, sent_by}
 use Rattle.spool_queue.specs.Passes.{taken_of}
@@ -28,7 +28,7 @@ returns g c =
     let was = c.send_all-ended.ensures.sent.sent in
     let S : List (List Stream) → Type 0 = λ ls. (rest : List SpoolJob) × AreSent (sent_by ls) (taken ++ rest) in
     let T : List (List Stream) → Type 0 = λ ls. length taken ≡ count_sent ls → AreSent (sent_by ls) taken in
-    came_to c.print_jobs-printed.result c.args.how.now.profile (table_of c.args.how.now.kernel) sent taken
+    came_to c.print_jobs-printed.result c.args.how.now.profile (screening_of c.args.how.now.kernel c.args.how.now.grain) sent taken
     (outside_of g.K.Sink.held g.K.Sink.faults c.args.out.now c.print_jobs-printed.new.out)
     (meters_of (λ m. (goal.Meter-dyn g (m.vtable, m.value)).account m.value) c.args.meters.now.items c.print_jobs-printed.new.meters.items)
     c.print_jobs-printed.new.done.items c.answer_for-answer.result c.args.desk.count

@@ -1,5 +1,6 @@
 use Rattle.std.proofs.Common.{List, [], refl, sym, subst}
 use Rattle.driver_core.specs.Outside.{meters_of, outside_of, texts_of}
+use Rattle.page_halftoner.specs.Screenings.{screening_of}
 use Rattle.spool_core.specs.Outcome.{SpoolOutcome, SpoolOutside}
 use Rattle.spool_core.specs.Prepared.{sent_in}
 use Rattle.spool_core.specs.declared.report.Ran.{Ran}
@@ -15,8 +16,9 @@ returns-in-Ok-clause-outcome g c =
       out = outside_of g.K.Sink.held g.K.Sink.faults c.args.out.now c.perform.new.out;
       meters = meters_of (λ m. (goal.Meter-dyn g (m.vtable, m.value)).account m.value) c.args.meters.now.items c.perform.new.meters.items;
     })
-    c.perform.result.done.items c.in-Ok.prepared.how.profile c.in-Ok.prepared.how.kernel (sent_in c.in-Ok.prepared) c.perform.result.answer
-    ready.means ready.kernel_is ready.profile_is ready.files c.perform.ensures
+    c.perform.result.done.items c.in-Ok.prepared.how.profile
+    (screening_of c.in-Ok.prepared.how.kernel c.in-Ok.prepared.how.grain) (sent_in c.in-Ok.prepared) c.perform.result.answer
+    ready.means ready.screening_is ready.profile_is ready.files c.perform.ensures
 
 pub returns-in-Err-clause-outcome : goal.returns-in-Err-clause-outcome
 returns-in-Err-clause-outcome g c =

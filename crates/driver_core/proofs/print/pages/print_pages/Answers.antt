@@ -2,7 +2,7 @@ use Rattle.std.proofs.Common.{List, ℕ, ◌*◌, Err, Option, [], ◌∷◌, �
 use Rattle.std.specs.Io.KnownBytes.{Appends}
 use Rattle.std.proofs.KnownBytes.{Keeps-refl}
 use Rattle.std.proofs.lemmas.Result.{err_from_is_err_and}
-use Rattle.diffusion_kernel.specs.Tables.{table_of}
+use Rattle.page_halftoner.specs.Screenings.{screening_of}
 use Rattle.halftone_reader.specs.declared.pages.HalftonedPage.{HalftonedPage}
 use Rattle.page_definitions.specs.Ways.{halftone_bytes_by, most_rasters}
 use Rattle.page_definitions.specs.Dots.{halftone}
@@ -13,7 +13,7 @@ use Rattle.pwg_definitions.specs.declared.pages.PageForm.{PageForm}
 use Rattle.separation_definitions.specs.Windows.{wanted_by, window_of}
 use Rattle.weave_base.specs.Parts.{AppendsPart}
 use Rattle.driver_core.specs.Outside.{outside_of}
-use Rattle.driver_core.proofs.Printing.Setups.{same-kernel, same-profile, same-way}
+use Rattle.driver_core.proofs.Printing.Setups.{same-grain, same-kernel, same-profile, same-way}
 use Rattle.driver_core.proofs.Printing.Ends.{can_go, no_sync, page_over, page-bytes-is, page-wanted, page_not_written}
 use Rattle.driver_core.proofs.Printing.Ends.{page_stopped, page_without_room, stream_done}
 use Rattle.driver_core.proofs.Printing.Counting.{dots_counted, none_counted}
@@ -23,7 +23,7 @@ use Rattle.driver_core.proofs.print.pages.print_pages.Goals as goal
 pub returns-in-Err-clause-outcome : goal.returns-in-Err-clause-outcome
 returns-in-Err-clause-outcome g c =
     rw c.stream_answer.ensures
-    (no_sync c.args.how.now.way c.args.how.now.profile (table_of c.args.how.now.kernel)
+    (no_sync c.args.how.now.way c.args.how.now.profile (screening_of c.args.how.now.kernel c.args.how.now.grain)
     (outside_of g.S.Source.left g.S.Source.faults c.args.input.now c.begin.new.source)
     (outside_of g.K.Sink.held g.K.Sink.faults c.args.out.now c.args.out.now) _ c.in-Err.stop (Keeps-refl (g.K.Sink.held c.args.out.now))
     c.in-Err.ensures.input c.in-Err.ensures.place c.in-Err.ensures.read c.in-Err.ensures.taken c.in-Err.ensures.used)
@@ -34,7 +34,7 @@ pages-init g c = record {
     [],
     stream_begin c.in-Ok.reader c.in-Ok.ensures.sync c.in-Ok.ensures.none.0
         (record { whole = c.in-Ok.ensures.none.1; going = c.in-Ok.ensures.going }) c.in-Ok.ensures.none.2,
-    none_counted c.args.how.now.profile (table_of c.args.how.now.kernel) _,
+    none_counted c.args.how.now.profile (screening_of c.args.how.now.kernel c.args.how.now.grain) _,
   );
   whole = omega arith;
   read_later = c.begin.ensures.later;
@@ -61,34 +61,34 @@ returns-in-Ok-None-clause-outcome g c =
 
 pub write_by_way-requires-clause-wanted : goal.write_by_way-requires-clause-wanted
 write_by_way-requires-clause-wanted g c κs within =
-    let read = rw (c.in-Ok-Some.field-0-is, same-kernel c.how.view_is) at c.in-Ok-Some.ensures.page in
+    let read = rw (c.in-Ok-Some.field-0-is, same-kernel c.how.view_is, same-grain c.how.view_is) at c.in-Ok-Some.ensures.page in
     page-wanted (wanted_by c.args.how.now.profile) read.reads.bytes read.page c.in-Ok-Some.page.form read.form_is read.reads.is
 
 pub write_by_way-requires-clause-width : goal.write_by_way-requires-clause-width
 write_by_way-requires-clause-width g c κs within =
-    let read = rw (c.in-Ok-Some.field-0-is, same-kernel c.how.view_is) at c.in-Ok-Some.ensures.page in
+    let read = rw (c.in-Ok-Some.field-0-is, same-kernel c.how.view_is, same-grain c.how.view_is) at c.in-Ok-Some.ensures.page in
     read.dots.width_is ∙ ap (λ (f : PageForm). (window_of f c.args.how.now.profile).width) (sym read.form_is)
 
 pub write_by_way-requires-clause-rows : goal.write_by_way-requires-clause-rows
 write_by_way-requires-clause-rows g c κs within =
-    let read = rw (c.in-Ok-Some.field-0-is, same-kernel c.how.view_is) at c.in-Ok-Some.ensures.page in
+    let read = rw (c.in-Ok-Some.field-0-is, same-kernel c.how.view_is, same-grain c.how.view_is) at c.in-Ok-Some.ensures.page in
     read.dots.rows_is ∙ ap (λ (f : PageForm). (window_of f c.args.how.now.profile).height) (sym read.form_is)
 
 pub write_by_way-requires-clause-inks : goal.write_by_way-requires-clause-inks
 write_by_way-requires-clause-inks g c κs within =
-    let read = rw (c.in-Ok-Some.field-0-is, same-kernel c.how.view_is) at c.in-Ok-Some.ensures.page in
+    let read = rw (c.in-Ok-Some.field-0-is, same-kernel c.how.view_is, same-grain c.how.view_is) at c.in-Ok-Some.ensures.page in
     read.dots.inks_is
 
 pub returns-in-Err-Write-clause-outcome : goal.returns-in-Err-Write-clause-outcome
 returns-in-Err-Write-clause-outcome g c =
-    let halftoned = rw (c.in-Ok-Some.field-0-is, same-kernel c.how.view_is) at c.in-Ok-Some.ensures.page in
+    let halftoned = rw (c.in-Ok-Some.field-0-is, same-kernel c.how.view_is, same-grain c.how.view_is) at c.in-Ok-Some.ensures.page in
     let counted = page_counted c.count_inks.result c.pages.invariant.stream halftoned
     (rw c.in-Ok-Some.field-0-is at c.in-Ok-Some.ensures.between) (same-profile c.how.view_is) c.count_inks.ensures.dots
     c.in_ok-charge.ensures.room c.in_ok-charge.ensures.counted in
     let B : List ℕ → Type 0 = λ bytes. AppendsPart (g.K.Sink.held c.pages.out) (g.K.Sink.held c.write_by_way.new.sink) bytes in
-    let Q : Way → Type 0 = λ way. B (halftone_bytes_by way c.args.how.now.profile (halftone halftoned.page c.args.how.now.profile (table_of c.args.how.now.kernel)) (c.in-Ok-Some.page.form.height * row_units c.args.how.now.profile)) in
+    let Q : Way → Type 0 = λ way. B (halftone_bytes_by way c.args.how.now.profile (halftone halftoned.page c.args.how.now.profile (screening_of c.args.how.now.kernel c.args.how.now.grain)) (c.in-Ok-Some.page.form.height * row_units c.args.how.now.profile)) in
     let part = subst B (page-bytes-is c.args.how.now.way halftoned)
-    (subst Q (same-way c.how.view_is) (c.in-Err-Write.ensures.part (halftone halftoned.page c.args.how.now.profile (table_of c.args.how.now.kernel)) halftoned.dots (ap Err c.in-Err-Write.field-0-is))) in
+    (subst Q (same-way c.how.view_is) (c.in-Err-Write.ensures.part (halftone halftoned.page c.args.how.now.profile (screening_of c.args.how.now.kernel c.args.how.now.grain)) halftoned.dots (ap Err c.in-Err-Write.field-0-is))) in
     let p : Printer = c.args.how.now.profile in
     let F : Way → Type 0 = λ way.
     AppendsAtMost (most_rasters way p c.in-Ok-Some.page.planes.rows) (g.K.Sink.held c.pages.out) (g.K.Sink.held c.write_by_way.new.sink) in
@@ -103,7 +103,7 @@ returns-in-Err-Write-clause-outcome g c =
 
 pub returns-in-Err-Memory-clause-outcome : goal.returns-in-Err-Memory-clause-outcome
 returns-in-Err-Memory-clause-outcome g c =
-    let halftoned = rw (c.in-Ok-Some.field-0-is, same-kernel c.how.view_is) at c.in-Ok-Some.ensures.page in
+    let halftoned = rw (c.in-Ok-Some.field-0-is, same-kernel c.how.view_is, same-grain c.how.view_is) at c.in-Ok-Some.ensures.page in
     let counted = page_counted c.count_inks.result c.pages.invariant.stream halftoned
     (rw c.in-Ok-Some.field-0-is at c.in-Ok-Some.ensures.between) (same-profile c.how.view_is) c.count_inks.ensures.dots
     c.in_ok-charge.ensures.room c.in_ok-charge.ensures.counted in
@@ -114,13 +114,13 @@ returns-in-Err-Memory-clause-outcome g c =
 
 pub pages-preserved : goal.pages-preserved
 pages-preserved g c =
-    let halftoned = rw (c.in-Ok-Some.field-0-is, same-kernel c.how.view_is) at c.in-Ok-Some.ensures.page in
+    let halftoned = rw (c.in-Ok-Some.field-0-is, same-kernel c.how.view_is, same-grain c.how.view_is) at c.in-Ok-Some.ensures.page in
     let counted = page_counted c.count_inks.result c.pages.invariant.stream halftoned
     (rw c.in-Ok-Some.field-0-is at c.in-Ok-Some.ensures.between) (same-profile c.how.view_is) c.count_inks.ensures.dots
     c.in_ok-charge.ensures.room c.in_ok-charge.ensures.counted in
     let B : List ℕ → Type 0 = λ bytes. Appends (g.K.Sink.held c.pages.out) (g.K.Sink.held c.write_by_way.new.sink) bytes in
     let p : Printer = c.args.how.now.profile in
-    let Q : Way → Type 0 = λ way. B (halftone_bytes_by way p (halftone halftoned.page p (table_of c.args.how.now.kernel)) (c.in-Ok-Some.page.form.height * row_units p)) in
+    let Q : Way → Type 0 = λ way. B (halftone_bytes_by way p (halftone halftoned.page p (screening_of c.args.how.now.kernel c.args.how.now.grain)) (c.in-Ok-Some.page.form.height * row_units p)) in
     record {
       stream = (
         c.pages.invariant.stream.0 ++ halftoned.page ∷ [],
@@ -135,9 +135,9 @@ pages-preserved g c =
 
 pub returns-in_err-charge-clause-outcome : goal.returns-in_err-charge-clause-outcome
 returns-in_err-charge-clause-outcome g c =
-    let halftoned = rw (c.in-Ok-Some.field-0-is, same-kernel c.how.view_is) at c.in-Ok-Some.ensures.page in
+    let halftoned = rw (c.in-Ok-Some.field-0-is, same-kernel c.how.view_is, same-grain c.how.view_is) at c.in-Ok-Some.ensures.page in
     let read = next_read c.pages.invariant.stream.1 halftoned.reads (rw c.in-Ok-Some.field-0-is at c.in-Ok-Some.ensures.between) in
-    let are = dots_counted (table_of c.args.how.now.kernel) _ halftoned.page c.count_inks.result (same-profile c.how.view_is) halftoned.dots c.count_inks.ensures.dots in
+    let are = dots_counted (screening_of c.args.how.now.kernel c.args.how.now.grain) _ halftoned.page c.count_inks.result (same-profile c.how.view_is) halftoned.dots c.count_inks.ensures.dots in
     let error = err_from_is_err_and c.from_residual.result c.from_residual.ensures.1 in
     rw (error.1, error.2)
     (page_over (outside_of g.S.Source.left g.S.Source.faults c.args.input.now c.read_page.new.source)

@@ -1,12 +1,12 @@
 use Rattle.std.proofs.Common.{ℕ, ◌+◌, ◌*◌, ◌≤◌, Option, Some, sym, ap, subst, arith}
-use Rattle.diffusion_kernel.specs.Tables.{table_of}
+use Rattle.page_halftoner.specs.Screenings.{screening_of}
 use Rattle.halftone_reader.specs.declared.pages.HalftonedPage.{HalftonedPage}
 use Rattle.page_definitions.specs.Dots.{halftone}
 use Rattle.printer_definitions.specs.Printer.{Printer, row_units}
 use Rattle.printer_profile.proofs.CheckedProfiles.{can_print}
 use Rattle.pwg_definitions.specs.declared.pages.PageForm.{PageForm}
 use Rattle.separation_definitions.specs.Windows.{wanted_by}
-use Rattle.driver_core.proofs.Printing.Setups.{same-kernel, same-profile}
+use Rattle.driver_core.proofs.Printing.Setups.{same-grain, same-kernel, same-profile}
 use Rattle.driver_core.proofs.Printing.Ends.{page-wanted}
 use Rattle.driver_core.proofs.Trying.Steps.{TriedSoFar, all_tried, page_stops, tried_begin, tried_page}
 use Rattle.driver_core.proofs.trial.pages.try_stream.Goals as goal
@@ -31,27 +31,27 @@ returns-in-Err-read_page-clause-err g c =
 
 pub try_page-requires-clause-wanted : goal.try_page-requires-clause-wanted
 try_page-requires-clause-wanted g c κs within =
-    let read = rw (c.in-Ok-Some.field-0-is, same-kernel c.how.view_is) at c.in-Ok-Some.ensures.page in
+    let read = rw (c.in-Ok-Some.field-0-is, same-kernel c.how.view_is, same-grain c.how.view_is) at c.in-Ok-Some.ensures.page in
     page-wanted (wanted_by c.args.how.now.profile) read.reads.bytes read.page c.in-Ok-Some.page.form read.form_is read.reads.is
 
 pub overflow_add-written : goal.overflow_add-written
 overflow_add-written g c =
     let p : Printer = c.args.how.now.profile in
-    let read = rw (c.in-Ok-Some.field-0-is, same-kernel c.how.view_is) at c.in-Ok-Some.ensures.page in
-    let tries = c.in_ok-sum.ensures.ok (halftone read.page p (table_of c.args.how.now.kernel)) read.dots in
+    let read = rw (c.in-Ok-Some.field-0-is, same-kernel c.how.view_is, same-grain c.how.view_is) at c.in-Ok-Some.ensures.page in
+    let tries = c.in_ok-sum.ensures.ok (halftone read.page p (screening_of c.args.how.now.kernel c.args.how.now.grain)) read.dots in
     omega (arith, c.pages.invariant.tried.few_bytes, tries.sums.short, c.pages-test.true)
 
 pub pages-preserved : goal.pages-preserved
 pages-preserved g c =
     let p : Printer = c.args.how.now.profile in
-    let read = rw (c.in-Ok-Some.field-0-is, same-kernel c.how.view_is) at c.in-Ok-Some.ensures.page in
+    let read = rw (c.in-Ok-Some.field-0-is, same-kernel c.how.view_is, same-grain c.how.view_is) at c.in-Ok-Some.ensures.page in
     let can = can_print p (subst (λ (p : Printer). p.nozzles ≤ 255) (same-profile c.how.view_is) (omega (arith, c.if-prove.false))) c.requires.printed.checked in
     let tried = tried_page c.pages.reader c.read_page.new.reader c.pages.number read.page c.try_page.new.counter c.in_ok-sum.sum
     (c.in-Ok-Some.page.form.height * row_units p) can c.pages.invariant.tried read.reads
     (rw c.in-Ok-Some.field-0-is at c.in-Ok-Some.ensures.between) (omega arith)
     (ap (λ (f : PageForm). f.height * row_units p) read.form_is)
-    (c.in_ok-sum.ensures.ok (halftone read.page p (table_of c.args.how.now.kernel)) read.dots) in
-    let P : ℕ → Type 0 = λ n. TriedSoFar c.args.how.now.way p (table_of c.args.how.now.kernel) (Some c.args.maker.now)
+    (c.in_ok-sum.ensures.ok (halftone read.page p (screening_of c.args.how.now.kernel c.args.how.now.grain)) read.dots) in
+    let P : ℕ → Type 0 = λ n. TriedSoFar c.args.how.now.way p (screening_of c.args.how.now.kernel c.args.how.now.grain) (Some c.args.maker.now)
     (Some c.read_page.new.source) c.read_page.new.reader (c.pages.number + 1)
     (record { bytes = c.pages.written.bytes + c.in_ok-sum.sum.bytes; rasters = c.pages.written.rasters + n }) c.try_page.new.counter in
     record { tried = subst P (sym c.from.ensures) tried }

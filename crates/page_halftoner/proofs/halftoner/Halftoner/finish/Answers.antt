@@ -1,9 +1,9 @@
 use Rattle.std.proofs.Common.{◌≡◌, ◌∙◌, ap, false, sym, subst}
-use Rattle.diffusion_kernel.specs.Tables.{table_of}
 use Rattle.dot_planes.specs.Tables.{dot}
 use Rattle.page_definitions.specs.Dots.{HasDots, halftone}
 use Rattle.page_halftoner.specs.Halftones.{Halftoning, StandsFor}
 use Rattle.page_halftoner.specs.Kept.{halftoning}
+use Rattle.page_halftoner.specs.Screenings.{screening_of}
 use Rattle.page_halftoner.proofs.Lines.{all_diffused, whole_page}
 use Rattle.page_halftoner.proofs.halftoner.Halftoner.finish.Goals as goal
 
@@ -19,5 +19,5 @@ returns c = λ lines stands.
     (all_diffused c.self.inside.filler v.rows (v.room working) count) v.planes c.finish.ensures.size c.finish.ensures.dots in
     let R : Halftoning → Type 0 =
     λ g. HasDots g.profile (halftone (record { form = g.form; lines = lines })
-    g.profile (table_of g.kernel)) c.finish.result.width c.finish.result.rows c.finish.result.inks (dot c.finish.result) in
+    g.profile (screening_of g.kernel g.grain.grain)) c.finish.result.width c.finish.result.rows c.finish.result.inks (dot c.finish.result) in
     subst R c.self.view_is dots

@@ -15,6 +15,7 @@ loop-left-preserved g c =
         profile = next.page.profile ∙ v.page.profile;
         form = next.page.form ∙ v.page.form;
         kernel = next.page.kernel ∙ v.page.kernel;
+        grain = next.page.grain ∙ v.page.grain;
       };
       few = omega (arith, v.few);
       count = omega (arith, next.count, v.count, next.most);

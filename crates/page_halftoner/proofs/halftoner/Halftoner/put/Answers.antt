@@ -1,6 +1,7 @@
 use Rattle.std.proofs.Common.{◌++◌, ◌∙◌, ℕ, ap, replicate, subst, sym}
 use Rattle.diffusion_kernel.specs.Tables.{table_of}
 use Rattle.dot_planes.specs.Tables.{AmountTable}
+use Rattle.grained_rows.specs.Grained.{grained_table}
 use Rattle.raw_rows.specs.Raw.{table_of as amounts_of}
 use Rattle.separation_definitions.specs.declared.window.Window.{Window}
 use Rattle.wavefront_team.specs.Slabs.{DiffusesSlab}
@@ -15,8 +16,10 @@ returns-in_ok-diffuse_beside-clause-stands g c = λ lines stands.
     let d : Diffusing = c.self.inside.diffuser in
     let done : Diffusing = c.diffuse_beside.new.self in
     let told = c.in_ok-diffuse_beside.ensures in
-    let S : AmountTable → Type 0 = λ slab. DiffusesSlab (table_of d.kernel) slab d.top done.top f.first (dots_in d.dots) (dots_in done.dots) in
-    let F : ℕ → Type 0 = λ first. DiffusesSlab (table_of d.kernel) (amounts_of c.slab-slab.result.now) d.top done.top first (dots_in d.dots) (dots_in done.dots) in
+    let Done : ℕ → AmountTable → Type 0 = λ first slab.
+    DiffusesSlab (table_of d.kernel) (grained_table d.grain first slab) d.top done.top first (dots_in d.dots) (dots_in done.dots) in
+    let S : AmountTable → Type 0 = λ slab. Done f.first slab in
+    let F : ℕ → Type 0 = λ first. Done first (amounts_of c.slab-slab.result.now) in
     let all : IsDone f c.go_on.new.self d done = record {
       full = c.is_full.ensures.full.0 c.if-is_full.true;
       rows = c.is_full.ensures.rows;
@@ -24,6 +27,7 @@ returns-in_ok-diffuse_beside-clause-stands g c = λ lines stands.
           ∙ ap (λ (w : Window). w.height) (sym (same_window c.self.inside.filler f c.put-taken.ensures.page));
       goes_on = c.go_on.ensures;
       kernel = told.kernel;
+      grain = told.grain;
       diffused = subst S c.slab-slab.ensures (subst F c.first-first.ensures told.slab);
     } in
     let Q : Halftoning → Type 0 = λ h. StandsFor h lines in

@@ -1,0 +1,4 @@
+pub mod Tallies
+pub mod Rounds
+pub mod Shares
+pub mod Means

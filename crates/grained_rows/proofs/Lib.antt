@@ -1,0 +1,2 @@
+pub mod GrainedTile
+pub mod Steps
