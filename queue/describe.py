@@ -57,6 +57,9 @@ Quality = namedtuple("Quality", "name text number")
 QUALITIES = [
     Quality("Normal", "Normal, by Jarvis, Judice and Ninke", 4), Quality("Draft", "Draft, by Floyd and Steinberg", 3),
     Quality("High", "High, by Stucki", 5)]
+GRAINS = [("None", "By the Print Quality"), ("0", "Off"), ("8", "Weak"), ("16", "Medium"), ("32", "Strong")]
+BLACK_STARTS = [("None", "By the Profile"), ("0", "From White On"), ("64", "From Light Tones On"),
+                ("128", "From the Middle On")]
 WORKERS = (1, 2, 4, 8, 16, 32, 64)
 
 
@@ -200,9 +203,18 @@ def ppd_choices(profile):
         ppd_option("ColorModel", "Color Mode", models, 10),
         ppd_option("cupsPrintQuality", "Print Quality", [(each.name, each.text, "") for each in QUALITIES], 20),
         ppd_option("Kernel", "Error Diffusion", [(name, text, "") for name, text in KERNELS], 20),
+        ppd_option("Grain", "Even Colors", [(name, text, "") for name, text in GRAINS], 20),
+        *ppd_black_start(profile),
         ppd_option("Workers", "Threads", [(str(count), str(count), "") for count in WORKERS], 20),
         ppd_custom_option("Cap", "Most Dots of a Job", "No Limit", "Dots", 20),
         ppd_passes(profile)])
+
+
+def ppd_black_start(profile):
+    """The tone from which black ink is used, where colours have black ink beside them."""
+    if len(profile.inks) < 4:
+        return []
+    return [ppd_option("Black_Start", "Black Ink", [(name, text, "") for name, text in BLACK_STARTS], 20)]
 
 
 def ppd_passes(profile):
