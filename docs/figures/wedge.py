@@ -1,15 +1,15 @@
 #!/usr/bin/python3
-"""Draws two prints of the wedge one below the other as a PNG, each dot a square of some pixels.
+"""Draws prints one below the other as a PNG, each dot a square of some pixels.
 
-    wedge.py SCALE FILE.png UPPER LOWER
+    wedge.py SCALE FILE.png PRINT PRINT ..
 
-UPPER and LOWER are what jinthbao-view made of the two jobs, a pixel a dot. The paper above and below the dots is left
-out.
+A PRINT is what jinthbao-view made of a job, a pixel a dot. The paper above and below the dots is left out.
 """
 from figure import number, run
 from page import Image, enlarged, printed, read_picture
 
 GAP = 12  # pixels of white above, between and below the prints
+FULL_INKS = 8  # the colours of prints whose pixels are dots
 
 
 def print_of(name, scale):
@@ -28,8 +28,8 @@ def main(words):
     for picture in prints:
         paper.paste(picture, (0, top))
         top += picture.height + GAP
-    paper.save(words[1], "PNG", optimize=True)
+    paper.quantize(FULL_INKS).save(words[1], "PNG", optimize=True)
 
 
 if __name__ == "__main__":
-    run(main, __doc__, lambda count: count == 4)
+    run(main, __doc__, lambda count: count >= 4)

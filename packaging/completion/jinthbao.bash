@@ -12,6 +12,7 @@ _jinthbao_value() {
     profile) _jinthbao_profiles ;;
     kernel) printf '%s\n' fs jjn stucki ;;
     kind) printf '%s\n' gray black rgb black1 cmyk ;;
+    grain) printf '%s\n' 0 8 16 32 ;;
     workers) printf '%s\n' 1 2 4 8 ;;
     shingle) printf '%s\n' 0 1 ;;
     esac
@@ -20,12 +21,12 @@ _jinthbao_value() {
 # _jinthbao_keys COMMAND: its keys
 _jinthbao_keys() {
     case $1 in
-    print) printf '%s\n' profile kernel workers cap shingle dead ;;
+    print) printf '%s\n' profile kernel grain workers cap shingle dead ;;
     dots) printf '%s\n' profile most ;;
     list) printf '%s\n' most ;;
     profile) printf '%s\n' profile ;;
-    trial) printf '%s\n' profile kernel workers seed pages width height kind shingle dead ;;
-    spool) printf '%s\n' profile kernel workers send ;;
+    trial) printf '%s\n' profile kernel grain workers seed pages width height kind shingle dead ;;
+    spool) printf '%s\n' profile kernel grain workers send ;;
     esac
 }
 
