@@ -1,4 +1,4 @@
-//! Answers that every layer gives.
+//! The error that every layer returns.
 use std::alloc::AllocError;
 
 /// The allocator refused memory.

@@ -1,8 +1,8 @@
-//! What definitions of every layer speak of: counting, dots packed into bytes and back, the limits of a page, and the
-//! answer that memory ran out. Each limit of a page has one name, which stands here.
+//! Definitions that every layer uses: counting, packing dots into bytes and back, the limits of a page, and the error
+//! that memory ran out. Each limit of a page has one name, defined here.
 //!
-//! Definitions, the types that they mention, `greatest_common_divisor`, which is exactly that of two numbers below 256,
-//! and 0 of two zeros, and `ones_in`, which counts the bits of bytes that are 1.
+//! The code has the types of the definitions, `greatest_common_divisor`, which is exact for two numbers below 256 and 0
+//! for two zeros, and `ones_in`, which counts the bits of bytes that are 1.
 #![tactic(auto)]
 
 mod answers;

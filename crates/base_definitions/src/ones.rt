@@ -3,7 +3,7 @@ ghost use Rattle.base_definitions.specs.Limits.{most_row_bytes};
 ghost use Rattle.std.specs.List.{sum_by};
 ghost use Rattle.std.specs.Prelude.{count_ones, length, ◌*◌, ◌≡◌, ◌≤◌};
 
-/// How many bits of some bytes are 1.
+/// How many bits of the bytes are 1.
 #[inline]
 pub fn ones_in(bytes: &[u8]) -> u32
     requires { length bytes.now ≤ most_row_bytes }

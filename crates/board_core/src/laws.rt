@@ -30,7 +30,7 @@ pub fn every_run_is_legal()
         → Legal core }
 {}
 
-/// Where no tile is taken and not all are posted, one is ready: no order of work is a dead end.
+/// If no tile is taken and not all are posted, one is ready: no order of work is a dead end.
 pub fn idle_seats_have_a_ready_tile()
     ensures { (core : CoreState) → IsCore core → Legal core → IsIdle core → (p : Place) × IsReadyTile core p }
 {}

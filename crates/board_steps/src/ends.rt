@@ -16,8 +16,8 @@ use std::alloc::Global;
 pub type BoardTable = Table<Cell, View, Slab, Tiles, Global>;
 
 /// Makes the words and slots of a board whose tiles all wait: words of 0, and the slots of `fresh_slots`. The seat is
-/// that of the first pass, which has all 256 parts. `Memory` where there is no room for the table; the slots are
-/// dropped then.
+/// that of the first pass, which has all 256 parts. Fails with `Memory` if there is no room for the table; the slots
+/// are then dropped.
 pub fn open(
     alloc: Global,
     words: &[u64],
@@ -38,8 +38,8 @@ pub fn open(
     }
 }
 
-/// The slots of a board, by a pass that has posted every tile: those that no tile receives have what their tiles give.
-/// Every slot has a value.
+/// The slots of a board, by a pass that has posted every tile. The slots that no tile receives have what their tiles
+/// give. Every slot has a value.
 pub fn close(table: BoardTable, seat: Seated) -> Closed<Cell, Global>
     requires table { seat.table_id ≡ table.shared.table_id }
     requires posted { (t : ℕ) → t < (setting_of table.shared.key).graph.tiles → 1 ≤ times t seat.me.0.mine }

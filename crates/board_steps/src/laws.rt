@@ -1,4 +1,4 @@
-//! What the rule means, each law as the contract of a function with an empty body.
+//! The meaning of the rule. Each law is the contract of a function with an empty body.
 ghost use Rattle.std.specs.Prelude.{[], ◌+◌, ◌≡◌, ◌<◌, ◌≤◌, ◌∷◌, ◌↔◌, None, Some, false, ℕ};
 ghost use Rattle.atomic_table.specs.Table.{State};
 ghost use Rattle.board_core.specs.Legal.{Legal};
@@ -21,8 +21,8 @@ ghost use Rattle.board_steps.specs.declared.rule.Cell.{Cell};
 ghost use Rattle.board_steps.specs.declared.rule.Slab.{Slab};
 ghost use Rattle.board_steps.specs.declared.rule.View.{View};
 
-/// The tiles of a window are a graph by their numbers, each number below its count is that of a tile, and its edges
-/// are those that one tile gives to another.
+/// The tiles of a window are a graph by their numbers. Each number below the graph's count is that of a tile, and the
+/// graph's edges are those that one tile gives to another.
 pub fn the_tiles_of_a_window_are_a_graph()
     ensures graph { (s : Shape) → IsGraph (graph_of s) }
     ensures number { (s : Shape) (p : Place) → IsTile s p → number_of s p < (graph_of s).tiles }
@@ -42,7 +42,7 @@ pub fn what_is_shown_is_legal()
     ensures { (b : Slab) (s : State Cell View) → Ruled (setting_of b) s → Legal (shown b s) }
 {}
 
-/// When a pass takes a tile, sends an edge or posts a tile, what is shown changes as by that event of `board_core`,
+/// When a pass takes a tile, sends an edge or posts a tile, the shown state changes as by that event of `board_core`,
 /// which the core accepts.
 pub fn steps_are_events()
     ensures take { (b : Slab) (s : State Cell View) (s' : State Cell View) (id : ℕ) (v : View) (p : Place)
@@ -65,8 +65,8 @@ pub fn a_join_adds_the_parts()
         → ((joined_view v u).parts ≡ v.parts + u.parts) × (v.parts + u.parts ≤ 256) }
 {}
 
-/// Of the tiles that a pass posts each is in its list once, also where it joins another pass while it holds a tile:
-/// here pass 0, which has posted tiles 0 and 1, holds tile 4, joins pass 2, which has posted 2 and 3, and posts tile 4.
+/// A pass's list has each tile that the pass posts once, also if the pass joins another while it holds a tile. Here
+/// pass 0, which has posted tiles 0 and 1, holds tile 4, joins pass 2, which has posted 2 and 3, and posts tile 4.
 pub fn a_post_after_a_join()
     ensures joined { (b : Slab) → (joined_view (holder b) (poster b)).mine
         ≡ (1, 0) ∷ (0, 0) ∷ (3, 2) ∷ (2, 2) ∷ [] }
@@ -75,7 +75,7 @@ pub fn a_post_after_a_join()
     ensures twice { (b : Slab) → HasPostedOnce 1 (posted_view (holder b) 1) → ⊥ }
 {}
 
-/// A look, a split and a join leave what is shown unchanged.
+/// A look, a split and a join leave the shown state unchanged.
 pub fn other_steps_show_nothing()
     ensures look { (b : Slab) (s : State Cell View) (s' : State Cell View) (id : ℕ) (v : View) (t : ℕ) (word : ℕ)
         → Moves b s s' id v (looked v t word) → shown b s' ≡ shown b s }

@@ -1,4 +1,4 @@
-//! The types of which the board's rule speaks, and the kinds of steps.
+//! The types that the board's rule uses, and the kinds of steps.
 use atomic_table::{Join, Play, Seat, Shared, Split, TableRule};
 use diffusion_kernel::Kernel;
 use dot_planes::{Seen, TileBits};
@@ -31,8 +31,8 @@ pub struct Slab {
     pub top: Snapshot<TopEdges>,
 }
 
-/// What a pass knows. Contracts alone speak of it and no value of it is ever made, so its numbers are not bounded.
-/// Tiles are numbered by band and then column. Direction 0 is right, 1 bottom, 2 corner.
+/// What a pass knows. Only contracts use it, and no value of it is ever made, so its numbers are not bounded. Tiles are
+/// numbered by band and then column. Direction 0 is right, 1 bottom, 2 corner.
 pub struct View {
     /// The number of the pass.
     pub number: u64,
@@ -59,7 +59,7 @@ pub struct View {
 pub type Seated = Seat<Cell, View>;
 
 /// The words and slots that passes share: word t is that of tile t, and slot 4 t + d is for what tile t gives in the
-/// direction d, or for its dots where d is 3.
+/// direction d, or for its dots if d is 3.
 pub type Words = Shared<Cell, View, Slab, Tiles>;
 
 /// The name of the rule.

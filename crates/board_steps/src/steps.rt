@@ -36,7 +36,7 @@ pub fn look(words: &Words, seat: &mut Seated, at: usize) -> u64
     words.load::<Looks>(seat, at)
 }
 
-/// Takes tile `at` if no pass has taken it, and answers the word that it found. If bit 8 of that word is clear, the
+/// Takes tile `at` if no pass has taken it, and returns the word that it found. If bit 8 of that word is clear, the
 /// pass holds the tile: it has the tile's own four slots, and those of the edges that come to it.
 pub fn take(words: &Words, seat: &mut Seated, at: usize) -> u64
     requires table { (seat.old.table_id ≡ words.now.table_id) × (at < words.now.table_id.words) }
@@ -50,8 +50,8 @@ pub fn take(words: &Words, seat: &mut Seated, at: usize) -> u64
     words.fetch_or::<Takes>(seat, at, TAKEN)
 }
 
-/// Sends an edge of the tile that the pass holds to tile `to`. Its slot, which is the first that the pass has, goes
-/// back to the table, where the pass that takes `to` gets it.
+/// Sends an edge of the tile that the pass holds to tile `to`. The edge's slot, the first that the pass has, goes back
+/// to the table. The pass that takes `to` gets it there.
 pub fn send(words: &Words, seat: &mut Seated, dir: Dir, to: usize)
     requires table { (seat.old.table_id ≡ words.now.table_id) × (to < words.now.table_id.words) }
     requires part { 1 ≤ seat.old.me.0.parts }
@@ -63,7 +63,7 @@ pub fn send(words: &Words, seat: &mut Seated, dir: Dir, to: usize)
 }
 
 /// Posts tile `at`, which the pass holds. All slots that the pass has go back to the table. No pass has posted the tile
-/// before, so the pass's list has it once, also where the pass has joined another since it took the tile.
+/// before, so the pass's list has it once, also if the pass has joined another since it took the tile.
 pub fn post(words: &Words, seat: &mut Seated, at: usize)
     requires table { (seat.old.table_id ≡ words.now.table_id) × (at < words.now.table_id.words) }
     requires part { 1 ≤ seat.old.me.0.parts }
@@ -86,8 +86,8 @@ pub fn cut(words: &Words, seat: &mut Seated) -> Seated
     words.split_seat::<Cuts>(seat)
 }
 
-/// Joins `other`, which holds nothing, to a pass, which then has its parts and the tiles that it posted. Together they
-/// have at most the board's 256 parts.
+/// Joins `other`, which holds nothing, to a pass. The pass then also has the parts of `other` and the tiles that
+/// `other` posted. Together they have at most the board's 256 parts.
 pub fn unite(words: &Words, seat: &mut Seated, other: Seated)
     requires table { (seat.old.table_id ≡ words.now.table_id) × (other.table_id ≡ words.now.table_id)
         × (0 < words.now.table_id.words) }

@@ -10,7 +10,7 @@ use weave_base::{Failed, Sink, put_all};
 /// The most bytes that are gathered.
 pub const MOST_GATHERED: usize = 8192;
 
-/// Bytes that are gathered before they are written, so that a sink gets few writes. It takes no memory.
+/// Bytes that are gathered before they are written, so that a sink gets few writes. It allocates no memory.
 #[derive(Drop)]
 pub struct Gathered {
     bytes: [u8; MOST_GATHERED],
@@ -43,7 +43,7 @@ impl Gathered {
         self.len = end;
     }
 
-    /// Makes room for `most` bytes: where there is less, it writes what is gathered.
+    /// Makes room for `most` bytes. If there is less room, it writes the gathered bytes.
     pub fn make_room<K: Sink>(&mut self, most: usize, k: &mut K) -> Result<(), Failed>
         requires { most ≤ MOST_GATHERED }
         ensures ok { OnOk result (Passes (K.held k.old) (K.held k.new) (gathered self.old) (gathered self.new)) }
@@ -60,7 +60,7 @@ impl Gathered {
         Ok(())
     }
 
-    /// Appends bytes. Where there is no room for them, it first writes what is gathered.
+    /// Appends bytes. If there is no room for them, it first writes the gathered bytes.
     pub fn write<K: Sink>(&mut self, bytes: &[u8], k: &mut K) -> Result<(), Failed>
         requires { length bytes.now ≤ MOST_GATHERED }
         ensures ok { OnOk result
@@ -74,7 +74,7 @@ impl Gathered {
         Ok(())
     }
 
-    /// Writes what is gathered.
+    /// Writes the gathered bytes.
     pub fn put<K: Sink>(&self, k: &mut K) -> Result<(), Failed>
         ensures ok { OnOk result (Appends (K.held k.old) (K.held k.new) (gathered self.now)) }
         ensures part { OnErr result (AppendsPart (K.held k.old) (K.held k.new) (gathered self.now)) }

@@ -1,4 +1,4 @@
-//! The bytes that were taken of a source and are not yet used.
+//! The bytes that were taken from a source and are not yet used.
 ghost use Rattle.buffered_bytes.specs.Text.{Grows, text_behind};
 ghost use Rattle.buffered_bytes.specs.declared.unread.TheConstants.{MOST_UNREAD};
 ghost use Rattle.std.specs.Io.KnownBytes.{IsAtEnd, Keeps};
@@ -13,7 +13,7 @@ use weave_base::{Failed, Memory, Source};
 /// The most bytes that are kept.
 pub const MOST_UNREAD: usize = 65536;
 
-/// The bytes that were taken of a source and are not yet used, in a buffer of fixed size. Contracts see their list.
+/// The bytes that were taken from a source and are not yet used, in a buffer of fixed size. Contracts see their list.
 #[derive(Drop)]
 pub struct Unread {
     buffer: Vec<u8>,
@@ -40,7 +40,7 @@ fn between(buffer: &[u8], start: usize, end: usize) -> &[u8]
 }
 
 impl Unread {
-    /// No bytes. It allocates the buffer; no other call takes memory.
+    /// No bytes. `make` allocates the buffer; no other call allocates memory.
     pub fn make(alloc: Global) -> Result<Unread, Memory>
         ensures { IfOk result (λ u. u ≡ []) }
     {
@@ -68,7 +68,7 @@ impl Unread {
         self.start += count;
     }
 
-    /// Reads once, appends what came, and gives its length: 0 only at the end of the source.
+    /// Reads once, appends the bytes read, and returns their number: 0 only at the end of the source.
     pub fn more<S: Source>(&mut self, source: &mut S) -> Result<usize, Failed>
         requires { length self.old < MOST_UNREAD }
         ensures grown { IfOk result (Grows self.old self.new) }

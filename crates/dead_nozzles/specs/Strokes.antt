@@ -14,7 +14,7 @@ pub record Head : Type 0 where
   pub height : ℕ
   pub dead : List ℕ
 
--- The head can print: its nozzles and their pitch have no common divisor, and a nozzle is live.
+-- The head can print: its nozzles and their pitch are coprime, and a nozzle is live.
 pub record IsHead (h : Head) : Type 0 where
   pub some_nozzles : 1 ≤ h.nozzles
   pub some_pitch : 1 ≤ h.pitch

@@ -13,8 +13,8 @@ pub enum DeadFault {
     AllDead { nozzles: u8 },
 }
 
-/// Checks a list of dead nozzles, which is in rising order. The first number that is none of the head's is refused, and
-/// a list of all nozzles.
+/// Checks a list of dead nozzles, which must be in rising order. The first number that the head does not have is
+/// refused, and so is a list of all nozzles.
 pub fn check_dead(nozzles: u8, dead: &[u8]) -> Result<(), DeadFault>
     requires some_nozzles { 1 ≤ nozzles }
     requires rising { IsRising dead.now }

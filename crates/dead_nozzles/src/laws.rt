@@ -16,7 +16,7 @@ pub fn missing_rows_are_made_up()
     ensures { (h : Head) → IsHead h → FiresEachOnce (has (missing h)) (make_up_strokes h) }
 {}
 
-/// A row is missing exactly where the nozzle that fires it in the weave is dead.
+/// A row is missing exactly if the nozzle that fires it in the weave is dead.
 pub fn rows_of_dead_nozzles_are_missing()
     ensures { (h : Head) → IsHead h → (pass nozzle row : ℕ) → nozzle < h.nozzles
         → nozzle_row h.nozzles h.pitch h.height pass nozzle ≡ Some row → has (missing h) row ≡ has h.dead nozzle }
@@ -27,7 +27,7 @@ pub fn live_nozzles_fire()
     ensures { (h : Head) → IsHead h → AreLive h (all_strokes h) }
 {}
 
-/// Each stroke starts below the one before it, so no two start at one place.
+/// Each stroke starts below the one before it, so no two strokes start at one place.
 pub fn starts_rise()
     ensures { (h : Head) → IsHead h → StartsRise (all_strokes h) }
 {}
@@ -37,14 +37,15 @@ pub fn strokes_start_above_the_end()
     ensures { (h : Head) → IsHead h → AllByRecursion (λ s. s.start < head_span h + h.height) (all_strokes h) }
 {}
 
-/// There are no more strokes than passes of the weave and missing rows, and no more missing rows than rows.
+/// There are at most as many strokes as passes of the weave and missing rows together, and at most as many missing rows
+/// as rows.
 pub fn strokes_are_few()
     ensures strokes { (h : Head) → IsHead h
         → length (all_strokes h) ≤ pass_count h.nozzles h.pitch h.height + length (missing h) }
     ensures rows { (h : Head) → length (missing h) ≤ h.height }
 {}
 
-/// The worked strokes are those of three nozzles, of which the last, the first, or all but the last are dead.
+/// The worked strokes are those of three nozzles of which the last, the first, or all but the last are dead.
 pub fn strokes_are_worked()
     ensures last { all_strokes (three_nozzles (2 ∷ [])) ≡ last_is_dead }
     ensures first { all_strokes (three_nozzles (0 ∷ [])) ≡ first_is_dead }

@@ -1,12 +1,13 @@
-//! Compensation of dead nozzles: `check_dead` checks a list of them, and `specs/Strokes.antt` has the strokes of such
-//! a head. The regular strokes are the passes of the weave, in which only live nozzles fire; make-up strokes fire the
-//! rows that these leave. `StrokePlan` is exactly these strokes, for the writer of pages: where each starts, and the
-//! row that each nozzle fires in it. `StrokePlan::make` takes its memory; no other call here takes any.
+//! Compensation of dead nozzles. `check_dead` checks a list of dead nozzles, and `specs/Strokes.antt` defines the
+//! strokes of a head with such a list. The regular strokes are the passes of the weave, in which only live nozzles
+//! fire. Make-up strokes fire the rows that the regular strokes leave. `StrokePlan` has exactly these strokes, for the
+//! writer of pages: where each stroke starts, and the row that each nozzle fires in it. `StrokePlan::make` allocates
+//! the plan's memory. No other call here allocates memory.
 //!
-//! `laws`, where the nozzles and the pitch have no common divisor and a nozzle is live: the strokes fire each row of a
-//! window exactly once (`each_row_is_fired_once`), each by a live nozzle that is over it (`live_nozzles_fire`), and
-//! their starts rise, so that no two are equal (`starts_rise`). A row is made up exactly where its nozzle in the weave
-//! is dead (`rows_of_dead_nozzles_are_missing`, `missing_rows_are_made_up`).
+//! `laws` has the following if the number of nozzles and the pitch are coprime and a nozzle is live. The strokes fire
+//! each row of a window exactly once (`each_row_is_fired_once`), each by a live nozzle that is over the row
+//! (`live_nozzles_fire`). Their starts rise, so no two starts are equal (`starts_rise`). A row is made up exactly if
+//! its nozzle in the weave is dead (`rows_of_dead_nozzles_are_missing`, `missing_rows_are_made_up`).
 #![tactic(auto)]
 
 mod checking;

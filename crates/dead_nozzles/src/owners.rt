@@ -23,8 +23,8 @@ fn pass_owner(head: &WornHead, plan: &Plan, row: u32) -> Option<u32>
     }
 }
 
-/// The owner of each row before any is made up: the start of the pass in which a live nozzle is over the row, or `None`
-/// where that nozzle is dead.
+/// The owner of each row before any row is made up: the start of the pass in which a live nozzle is over the row, or
+/// `None` if the nozzle of the row's pass is dead.
 pub(crate) fn pass_owners(alloc: Global, head: &WornHead) -> Result<Vec<Option<u32>>, Memory>
     requires head { IsHead head.now }
     requires some_rows { 1 ≤ head.now.height }

@@ -35,9 +35,9 @@ impl Model for StrokePlan {
 
 impl StrokePlan {
     /// A plan for a head of `nozzles` nozzles that are `pitch` rows apart, over a window of `height` rows: at most 22
-    /// inches, at 720 rows an inch. `dead` has the numbers of the dead nozzles in rising order, and passes
-    /// `check_dead`. The plan takes its memory here: 8 bytes for each row of the window, and 4 for each stroke in a
-    /// list that grows by doubling, so together at most a mebibyte (`small`).
+    /// inches at 720 rows an inch. `dead` has the numbers of the dead nozzles in rising order, and must pass
+    /// `check_dead`. The call allocates all memory of the plan: 8 bytes for each row of the window, and 4 for each
+    /// stroke in a list that grows by doubling. Together that is at most a mebibyte (`small`).
     pub fn make(
         alloc: Global,
         nozzles: u8,
@@ -81,7 +81,7 @@ impl StrokePlan {
         self.starts[stroke as usize]
     }
 
-    /// The row of the window that a nozzle fires in a stroke, counted from the top, or `None` where it fires none.
+    /// The row of the window that a nozzle fires in a stroke, counted from the top, or `None` if it fires none.
     pub fn row(&self, stroke: u32, nozzle: u8) -> Option<u32>
         requires stroke { stroke < length (all_strokes self.now) }
         requires nozzle { nozzle < self.now.nozzles }
@@ -97,7 +97,7 @@ impl StrokePlan {
         }
     }
 
-    /// How many rows the last nozzle is below the first. So many rows above the window the head begins.
+    /// How many rows the last nozzle is below the first. The head begins this many rows above the window.
     pub fn head_rows(&self) -> u32
         ensures { result ≡ head_span self.now }
     {

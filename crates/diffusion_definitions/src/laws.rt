@@ -1,4 +1,4 @@
-//! What holds of every plane. Rows of errors count from two above the plane: those of row y are at y + 2.
+//! Laws of every plane. Rows of errors count from two above the plane: those of row y are at y + 2.
 ghost use Rattle.diffusion_definitions.specs.Diffusion.{Errors, HasAmounts, InRange, Plane, Solves, Table, TopInRange};
 ghost use Rattle.diffusion_definitions.specs.Diffusion.{cut, divisor, errors, on, rest, value_at, weighted_from};
 ghost use Rattle.std.specs.Int.{int_div_euclid};
@@ -38,7 +38,7 @@ pub fn rest_below_two_rows()
         → errors k (rest s p) (λ t. errors k p top (s + t)) y ≡ errors k p top (s + y) }
 {}
 
-/// Where the errors of the rows from row s on are those of the whole plane, so are their dots.
+/// If the errors of the rows from row s on are those of the whole plane, so are their dots.
 #[tactic(auto, using(crate::proofs::SlabDots::slab_dots))]
 pub fn dots_of_the_rest()
     ensures { (k : Table) (p : Plane) (e f : Errors) (s : ℕ) → ((y n : ℕ) → f y n ≡ e (s + y) n)

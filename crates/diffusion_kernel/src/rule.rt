@@ -19,7 +19,7 @@ pub struct Near {
     pub up2: [i16; 5],
 }
 
-/// What a pixel shows.
+/// The dot and the error of a pixel.
 #[derive(Clone, Copy, Debug, PartialEq, Eq)]
 pub struct Dot {
     /// Whether a dot is printed.

@@ -22,7 +22,7 @@ pub struct Weight {
     pub share: u8,
 }
 
-/// The shares of a pixel's error as a published table has them, with those that are 0.
+/// The shares of a pixel's error as a published table has them, including those that are 0.
 #[derive(Clone, Copy)]
 pub struct Shares {
     /// The parts that the error is divided into: the sum of all shares.
@@ -31,7 +31,7 @@ pub struct Shares {
     pub right: [u8; 2],
     /// One row below, from two pixels to the left to two to the right.
     pub below: [u8; 5],
-    /// The same two rows below.
+    /// The same places, two rows below.
     pub below2: [u8; 5],
 }
 
@@ -56,7 +56,7 @@ const STUCKI: Shares = Shares {
     below2: [1, 2, 4, 2, 1],
 };
 
-/// The weights of a table, of these places of its rows.
+/// The weights of a table at these places of its rows.
 macro_rules! weights {
     ($table:ident, right: $($right:literal)*, below: $($below:literal)*, below2: $($below2:literal)*) => {
         [

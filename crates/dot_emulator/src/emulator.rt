@@ -74,8 +74,8 @@ impl Emulator {
     ghost use Rattle.std.specs.Prelude.{IfOk, List, OnErr, OnOk, None, ℕ};
     ghost use Rattle.std.specs.Prelude.{◌+◌, ◌/◌, ◌≤◌, unwrap_or};
 
-    /// A printer whose profile passes its checks, at the start of a job. `make` takes no memory; `run` does, for the
-    /// dots of a sheet.
+    /// A printer whose profile passes its checks, at the start of a job. `make` allocates no memory; `run` does, for
+    /// the dots of a sheet.
     pub fn make(alloc: Global, profile: &Profile) -> Emulator
         requires { IsOk (check profile.now) }
         ensures { Emulates profile.now result start }
@@ -93,8 +93,8 @@ impl Emulator {
     /// Runs a command. `rows` has the rows of a raster, `m` rows of `(n + 7) / 8` bytes, and is empty for other
     /// commands.
     ///
-    /// The answer is the sheet at an eject, else `Ok(None)`. After an `Err` the emulator is unchanged.
-    /// `EmulatorStop::Memory` can come at the first dot of a sheet, and at the eject of a blank one.
+    /// Returns the sheet at an eject, else `Ok(None)`. After an `Err` the emulator is unchanged. `EmulatorStop::Memory`
+    /// can come at the first dot of a sheet, and at the eject of a blank sheet.
     pub fn run(&mut self, command: &Command, rows: &[u8]) -> Result<Option<Sheet>, EmulatorStop>
         requires in_range { in_table command.now ≡ true }
         requires rows_fit { length rows.now ≡ rows_len command.now }
@@ -115,8 +115,8 @@ impl Emulator {
         self.planes.is_some()
     }
 
-    /// Takes back an ejected sheet without a dot. A later sheet of as many rows gets its planes, which are then neither
-    /// made nor cleared. What the emulator stands for is unchanged.
+    /// Takes back an ejected sheet without a dot. A later sheet of as many rows gets the planes, so that none are made
+    /// or cleared. What the emulator stands for is unchanged.
     pub fn keep(&mut self, sheet: Sheet)
         requires { IsBlankFrom 0 sheet.planes }
         ensures { (p : Printer) (m : Machine) → Emulates p self.old m → Emulates p self.new m }

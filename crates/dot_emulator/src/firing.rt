@@ -130,7 +130,8 @@ impl Raster {
         }
     }
 
-    /// Looks at its dots, over the planes of the sheet so far: whether it has a dot, or why its dots are refused.
+    /// Looks at the raster's dots over the planes of the sheet so far. Returns whether the raster has a dot, or why its
+    /// dots are refused.
     pub(crate) fn look(&self, rows: &[u8], planes: &Option<Planes>) -> Result<bool, EmulatorFault>
         requires rows { HasRows self.now rows.now }
         requires inks { inks_of planes.now ≡ 4 }
@@ -156,7 +157,7 @@ impl Raster {
         Ok(seen.some)
     }
 
-    /// Adds its dots to the planes.
+    /// Adds the raster's dots to the planes.
     pub(crate) fn lay(&self, rows: &[u8], planes: &mut Planes)
         requires rows { HasRows self.now rows.now }
         requires inks { planes.old.inks ≡ 4 }

@@ -82,7 +82,7 @@ impl State {
         None
     }
 
-    /// Where on the sheet a raster is, or why it is refused whatever its dots.
+    /// Where on the sheet a raster is, or why the raster is refused whatever its dots.
     pub(crate) fn place(&self, steps: Steps, header: RasterHead) -> Result<Raster, EmulatorFault>
         requires { header.n ≤ last_column }
         ensures placed { (p : Printer) (dots : List Dot)

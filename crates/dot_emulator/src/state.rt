@@ -69,14 +69,14 @@ impl State {
         }
     }
 
-    /// The page's length; 0 where it is not set.
+    /// The page's length; 0 if not set.
     pub(crate) fn page_length(&self) -> u32
         ensures { result ≡ page_length (machine_of self.now []) }
     {
         self.page.unwrap_or(0)
     }
 
-    /// The top margin; 0 where it is not set.
+    /// The top margin; 0 if not set.
     pub(crate) fn top(&self) -> u32
         ensures { result ≡ top_margin (machine_of self.now []) }
     {
@@ -86,7 +86,7 @@ impl State {
         }
     }
 
-    /// The bottom margin; 0 where it is not set.
+    /// The bottom margin; 0 if not set.
     pub(crate) fn bottom(&self) -> u32
         ensures is { result ≡ bottom_margin (machine_of self.now []) }
         ensures on_page { result ≤ unwrap_or self.now.page 0 }

@@ -1,4 +1,4 @@
-//! Commands that fire no dots and give no sheet: why they are refused, and the state after them.
+//! Commands that fire no dots and eject no sheet: why each is refused, and the state after it.
 ghost use Rattle.dot_emulator.specs.States.{IsStep, is_plain, machine_of};
 ghost use Rattle.escp2_definitions.specs.Commands.{in_table};
 ghost use Rattle.escp2_definitions.specs.Machine.{Dot, has_dots as is_dotted};
@@ -185,7 +185,7 @@ impl State {
         Ok(next)
     }
 
-    /// The state after a command that fires no dots and gives no sheet, or why it is refused.
+    /// The state after a command that fires no dots and ejects no sheet, or why the command is refused.
     pub(crate) fn after(&self, command: Command, has_dots: bool) -> Result<State, EmulatorFault>
         requires plain { is_plain command ≡ true }
         requires in_range { in_table command ≡ true }

@@ -1,4 +1,4 @@
-//! What a tile needs of rows of amounts, however these are kept.
+//! The amounts that a tile needs, however the rows of amounts are kept.
 use tile_shape::{Place, Shape};
 
 /// The amounts of a tile, 2048 of each of up to four inks: 64 of each of its 32 rows. A place without a pixel has an
@@ -25,7 +25,7 @@ pub const TILE_BYTES: usize = 32 * 256;
 /// Room for the bytes of a tile's pixels as they were read.
 pub type TileBytes = [u8; TILE_BYTES];
 
-/// Rows of amounts of inks, from which tiles are gathered. Contracts see a table of amounts, and not how these are
+/// Rows of amounts of inks, from which tiles are gathered. Contracts see a table of amounts, and not how the rows are
 /// kept.
 pub trait TileRows {
     ghost use Rattle.dot_planes.specs.Gathered.{HasTile, shape_of};
@@ -45,8 +45,8 @@ pub trait TileRows {
     fn inks(&self) -> u8
         ensures { result ≡ (table self.now).inks };
 
-    /// Sets a tile's amounts in every ink, wherever the window has a pixel of it. All else, and the bytes, may become
-    /// anything.
+    /// Sets a tile's amounts in every ink, wherever the window has a pixel of the tile. The rest of `out`, and `bytes`,
+    /// are unspecified.
     fn gather(&self, place: Place, bytes: &mut TileBytes, out: &mut TileAmounts)
         ensures tile { HasTile (table self.now) place out.new.inks }
         ensures few { (table self.now).inks ≤ 4 };

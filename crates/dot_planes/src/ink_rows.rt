@@ -49,7 +49,7 @@ impl InkRows {
         })
     }
 
-    /// Leaves room for fewer rows. The contract does not say what amounts they have then.
+    /// Leaves room for fewer rows. The contract does not say which amounts the rows then have.
     pub fn shorten(&mut self, rows: u32)
         requires some { 1 ≤ rows }
         requires most { rows ≤ self.old.rows }

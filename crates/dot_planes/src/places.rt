@@ -23,7 +23,7 @@ pub(crate) fn row_start(inks: u8, rows: u32, len: usize, ink: u8, y: u32) -> usi
     (usize::from(ink) * rows as usize + y as usize) * len
 }
 
-/// The same where row 0 of each ink comes first, then row 1 of each.
+/// The same if row 0 of each ink comes first, then row 1 of each.
 #[inline]
 pub(crate) fn row_start_across(inks: u8, rows: u32, len: usize, ink: u8, y: u32) -> usize
     requires inks { inks ≤ 4 }
@@ -48,7 +48,7 @@ pub(crate) fn row_of(bytes: &[u8], len: usize, start: usize) -> &[u8]
     &bytes[start..start + len]
 }
 
-/// The row of `len` bytes that begins at an index, or a blank one where the bytes end before it.
+/// The row of `len` bytes that begins at an index, or a blank row if the bytes end before it.
 #[inline]
 pub(crate) fn row_or_blank(bytes: &[u8], len: usize, start: usize) -> &[u8]
     requires most { len ≤ most_row_bytes }
@@ -65,7 +65,7 @@ pub(crate) fn row_or_blank(bytes: &[u8], len: usize, start: usize) -> &[u8]
     }
 }
 
-/// Fills bytes up to an index with 0, if they end before it. They have room, so that no memory is taken.
+/// Fills bytes up to an index with 0, if they end before it. They have room, so no memory is allocated.
 #[inline]
 pub(crate) fn reach(bytes: &mut Vec<u8>, end: usize)
     requires { end ≤ vec_capacity bytes.old }

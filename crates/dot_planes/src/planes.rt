@@ -20,8 +20,8 @@ use tile_shape::Place;
 /// The dots of a window, of inks in the order of the printer's set. Contracts see a table of dots.
 ///
 /// A row is packed: eight dots a byte, the first in its highest bit, (width + 7) / 8 bytes, and spare bits of 0. Row 0
-/// of each ink comes first, then row 1 of each. There is room for all rows, but only those up to the last one that was
-/// written are there; the rest are blank, and their memory is untouched.
+/// of each ink comes first, then row 1 of each. There is room for all rows, but only the rows up to the last one that
+/// was written are stored. The rest are blank, and their memory is untouched.
 #[derive(Drop)]
 pub struct Planes {
     width: u32,

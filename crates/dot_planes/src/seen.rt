@@ -17,7 +17,7 @@ impl Model for Seen {
 }
 
 impl Seen {
-    /// Those of these rows.
+    /// The amounts of these rows.
     pub fn of<A: TileRows>(rows: &A) -> Seen
         ensures { result.value ≡ A.table rows.now }
     {

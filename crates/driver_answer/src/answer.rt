@@ -22,7 +22,7 @@ pub enum Answer {
     Done,
     /// A word is refused.
     Usage(UsageFault),
-    /// The profile is refused at this line of its text; line 0 for the text as a whole.
+    /// The profile is refused at this line of its text. Line 0 stands for the text as a whole.
     Profile {
         line: u32,
         cause: ProfileCause,
@@ -160,7 +160,7 @@ fn push_profile_cause(cause: ProfileCause, out: &mut ErrorLine)
     }
 }
 
-/// Writes the line of a refused word, by its number and the name of the cause, into an empty text.
+/// Writes the error line of a refused word into an empty text, with the number of the word and the name of the cause.
 pub fn push_usage(word: u32, name: &str, out: &mut ErrorLine)
     requires empty { array_string_len out.old ≡ 0 }
     requires short { length name.now ≤ 16 }

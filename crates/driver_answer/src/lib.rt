@@ -1,8 +1,8 @@
 //! How a run of the driver can end: its answers, and the exit status and the error line of each. `driver_core`
 //! re-exports the types.
 //!
-//! `status` is 0 to 8 (`status_of`), and `text` is exactly the line of the answer (`line_of`), of at most 160 bytes.
-//! Neither takes memory.
+//! `status` returns 0 to 8 (`status_of`). `text` writes exactly the line of the answer (`line_of`), of at most 160
+//! bytes. Neither allocates memory.
 #![tactic(auto)]
 
 mod answer;

@@ -11,7 +11,7 @@ use job_words::UsageCause;
 use printer_profile::{ProfileFault, TextCause};
 use pwg_definitions::{HeaderFault, InputCause, LineFault};
 
-/// The words of a refused word's cause.
+/// The name of a refused word's cause.
 pub fn usage_name(cause: UsageCause) -> &'static str
     ensures name { result.now ≡ usage_name_of cause }
     ensures len { length result.now ≤ 16 }
@@ -53,7 +53,7 @@ fn line_name(fault: LineFault) -> &'static str
     }
 }
 
-/// The words of a refused input's cause.
+/// The name of a refused input's cause.
 pub fn input_name(cause: InputCause) -> &'static str
     ensures name { result.now ≡ input_name_of cause }
     ensures len { length result.now ≤ 16 }
@@ -67,7 +67,7 @@ pub fn input_name(cause: InputCause) -> &'static str
     }
 }
 
-/// The words of a refused profile text's cause.
+/// The name of a refused profile text's cause.
 pub fn text_name(cause: TextCause) -> &'static str
     ensures name { result.now ≡ text_name_of cause }
     ensures len { length result.now ≤ 11 }
@@ -83,7 +83,7 @@ pub fn text_name(cause: TextCause) -> &'static str
     }
 }
 
-/// The words of a profile's fault.
+/// The name of a profile's fault.
 pub fn check_name(fault: ProfileFault) -> &'static str
     ensures name { result.now ≡ check_name_of fault }
     ensures len { length result.now ≤ 10 }
@@ -129,7 +129,7 @@ fn machine_name(fault: EmulatorFault) -> &'static str
     }
 }
 
-/// The words of a refused job's cause.
+/// The name of a refused job's cause.
 pub fn job_name(cause: JobStop) -> &'static str
     ensures name { result.now ≡ job_name_of cause }
     ensures len { length result.now ≤ 16 }

@@ -1,10 +1,10 @@
-//! What a call comes to, as an answer.
+//! The result of a call as an answer, and back.
 ghost use Rattle.driver_core.specs.Runs.Outcome.{answer_of};
 ghost use Rattle.std.specs.Prelude.{◌≡◌};
 
 use driver_answer::Answer;
 
-/// The answer of a call: `Done`, or the one that it gives in place of its work.
+/// The answer of a call: `Done` for `Ok`, else the answer in `Err`.
 pub fn answer_to(worked: Result<(), Answer>) -> Answer
     ensures { result ≡ answer_of worked }
 {
@@ -14,7 +14,7 @@ pub fn answer_to(worked: Result<(), Answer>) -> Answer
     }
 }
 
-/// The same the other way: `Err` is each answer but `Done`.
+/// The result for an answer: `Ok` for `Done`, `Err` for each other answer.
 pub fn work_of(answer: Answer) -> Result<(), Answer>
     ensures { answer_of result ≡ answer }
 {

@@ -11,7 +11,8 @@ use printer_profile::Profile;
 use std::alloc::Global;
 use weave_base::{Sink, Source};
 
-/// Writes the sheets of the job that the input holds as images. `Err` is the answer where the job or a write stops it.
+/// Runs the job in the input, and writes its sheets as images. `Err` has the answer if the job or a write stops the
+/// command.
 pub fn play<S: Source, K: Sink>(
     alloc: Global,
     profile: &Profile,

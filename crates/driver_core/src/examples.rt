@@ -24,7 +24,7 @@ pub fn a_small_trial()
         ≡ codes "pages=1 sheets=1 bytes=70 rasters=1 k=2 c=0 m=0 y=0\n" }
 {}
 
-/// The numbers of that line, and where each number stands in a line.
+/// The numbers of the line of this summary, and where each number stands in a line.
 pub fn parts_of_a_line()
     ensures bytes { length small_page_bytes ≡ 70 }
     ensures rasters { rasters_of small_page_bytes ≡ 1 }

@@ -1,4 +1,4 @@
-//! The way of a job over its pages, and whether a head can go it.
+//! The way of the head that a job asks for, and whether a head can go that way.
 ghost use Rattle.driver_core.specs.Runs.Fitting.{IsRisingWay, RefusesWay, way_of};
 ghost use Rattle.job_profile.specs.declared.stops.ProfileCause.TheVariants as cause;
 ghost use Rattle.page_definitions.specs.Ways.{CanGo};
@@ -32,8 +32,8 @@ fn check_shingles(nozzles: u8, pitch: u8) -> Result<(), ProfileCause>
     })
 }
 
-/// The way that a job asks for: in shingled passes, around its dead nozzles if it names some, else in interleaved
-/// passes.
+/// The way of the head that a job asks for: shingled passes if the job wants them, strokes around dead nozzles if the
+/// job names some, else interleaved passes.
 pub fn job_way(job: &Job) -> Way
     ensures { result ≡ way_of job.now }
 {
@@ -46,8 +46,8 @@ pub fn job_way(job: &Job) -> Way
     }
 }
 
-/// Whether the head of a profile can go over a page this way: it can shingle if shingled passes are asked for, and its
-/// dead nozzles are nozzles of it and not all of them.
+/// Whether the head of a profile can go over a page this way. For shingled passes the head must be able to shingle.
+/// Dead nozzles must be nozzles of the head, and not all of them.
 pub fn check_way(way: &Way, profile: &Profile) -> Result<(), ProfileCause>
     requires checked { IsOk (check profile.now) }
     requires rising { IsRisingWay way.now }

@@ -9,7 +9,7 @@ use job_lister::{ListStop, list_job};
 use std::alloc::Global;
 use weave_base::{Sink, Source};
 
-/// Lists the commands of the job that the input holds. `Err` is the answer where the listing stops.
+/// Lists the commands of the job in the input. `Err` has the answer if the listing stops.
 pub fn list<S: Source, K: Sink>(
     alloc: Global,
     most: u64,

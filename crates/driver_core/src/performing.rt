@@ -1,4 +1,4 @@
-//! Doing what a command line asks for.
+//! Performs what a command line asks for.
 ghost use Rattle.driver_core.specs.Outside.{meters_of, outside_of};
 ghost use Rattle.driver_core.specs.Runs.Outcome.{answer_of};
 ghost use Rattle.driver_core.specs.Runs.Prepared.{DoneOutcome, IsReady};
@@ -17,7 +17,7 @@ use std::thread::Threads;
 use weave_base::{Sink, Source};
 use worker_team::{Gate, Team};
 
-/// Does a prepared command. `Err` is the answer where it is not done.
+/// Performs a prepared command. `Err` has the answer if the command is not done.
 pub fn perform<R: Threads + Sync, S: Source, K: Sink, G: Gate + Sync>(
     threads: &R,
     alloc: Global,

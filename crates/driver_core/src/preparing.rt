@@ -1,4 +1,4 @@
-//! What a command line asks for.
+//! Prepares what a command line asks for.
 ghost use Rattle.driver_core.specs.Caps.{with_cap};
 ghost use Rattle.driver_core.specs.Outside.{Outside, meters_of, texts_of};
 ghost use Rattle.driver_core.specs.Runs.Fitting.{IsProfileOf, way_of};
@@ -21,7 +21,7 @@ use printer_profile::Profile;
 use std::alloc::Global;
 use weave_base::{Shelf, Words};
 
-/// A command that can be done: its job, and the profile that it takes, which passes its checks.
+/// A command that is ready: its job, and its profile, which passes its checks. `list` takes no profile.
 #[derive(Drop)]
 pub enum Prepared {
     Print { job: Job, profile: Profile },
@@ -53,9 +53,9 @@ fn profile_of<F: Shelf>(
     }
 }
 
-/// Reads the words of a command line, sets the caps of the meters where a word gives one, finds the profile that the
-/// command takes, and checks that its head can go over pages as the job asks. `Err` is the answer of a run that goes no
-/// further.
+/// Reads the words of a command line, sets the caps of the meters if a word gives one, finds the profile that the
+/// command takes, and checks that its head can go over pages as the job asks. `Err` has the answer if the run ends
+/// here.
 pub fn prepare<F: Shelf>(
     alloc: Global,
     words: &Words,
@@ -65,7 +65,7 @@ pub fn prepare<F: Shelf>(
     ensures prepared { IfOk result (IsPrepared words.now (F.files shelf.old)) }
     ensures caps { IfOk result (λ prepared. map (λ meter. account meter) meters.new.items
         ≡ with_cap (job_in prepared).cap (map (λ meter. account meter) meters.old.items)) }
-    // Where nothing of the input and the output was used, this is the outcome of the run.
+    // If neither the input nor the output was used, this is the outcome of the run.
     ensures answered { IfErr result (λ a. (input out : Outside) → Keeps input.before input.now → Keeps out.before out.now
         → Outcome words.now
         (record {

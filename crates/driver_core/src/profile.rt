@@ -8,7 +8,7 @@ use printer_profile::Profile;
 use std::alloc::Global;
 use weave_base::{Sink, put_all};
 
-/// Writes the profile's text. `Err` is the answer where it is not written whole.
+/// Writes the profile's text. `Err` has the answer if the text is not written whole.
 pub fn show_profile<K: Sink>(alloc: Global, profile: &Profile, out: &mut K) -> Result<(), Answer>
     ensures { ShowOutcome profile.now
         (outside_of K.held K.faults out.old out.new) (answer_of result) }

@@ -51,22 +51,22 @@ pub fn tell<E: Sink>(answer: &Answer, err: &mut E)
     let _ = put_all(err, line.as_bytes());
 }
 
-/// Runs a command line. `print` prints the pages of the input (PWG Raster, PWG 5102.4) as a job of ESC/P2 commands on
-/// `out`; `dots` writes the sheets of the job in the input as images there; `list` writes its commands as lines of
-/// text, and `profile` a profile's text; `trial` makes pages, prints them into memory, runs the job of each, and writes
-/// a line of what it counted.
+/// Runs a command line, and writes its output to `out`. `print` prints the pages of the input (PWG Raster, PWG 5102.4)
+/// as a job of ESC/P2 commands. `dots` writes the sheets of the job in the input as images. `list` writes the commands
+/// of the job in the input as lines of text. `profile` writes the text of a profile. `trial` makes pages, prints them
+/// into memory, runs the job of each page, and writes a line of what it counted.
 ///
-/// The answer is the exit status: 0 done, 1 a word is refused, 2 the profile is refused, 3 the printer refuses the
-/// input or the pages that `trial` makes, 4 a read of the input or of the shelf failed, 5 a write failed, 6 a page goes
-/// past the cap of a meter, 7 memory ran out, 8 the job is refused. Each but 0 writes one line to `err`, as much of it
-/// as `err` takes.
+/// Returns the exit status: 0 done, 1 a word is refused, 2 the profile is refused, 3 the printer refuses the input or
+/// the pages that `trial` makes, 4 a read of the input or of the shelf failed, 5 a write failed, 6 a page goes past the
+/// cap of a meter, 7 memory ran out, 8 the job is refused. Each status but 0 writes one line to `err`, as much of it as
+/// `err` takes.
 ///
 /// The word `cap=n` sets the cap of each meter once the words are accepted. The meters are asked for room for a page
-/// after its last line was read and before its first byte is written; where all have room, all count its dots. Only
-/// `print` sets caps and counts.
+/// after its last line was read and before its first byte is written. If all meters have room, all count the dots of
+/// the page. Only `print` sets caps and counts.
 ///
 /// The word `workers=n` sets how many threads diffuse each slab of up to 256 rows, count the dots of a page and code
-/// its strokes. Each enters the gate after it claims a tile and before it works it.
+/// its strokes. Each thread enters the gate after it claims a tile and before it works the tile.
 pub fn run<R: Threads + Sync, S: Source, K: Sink, E: Sink, F: Shelf, G: Gate + Sync>(
     rt: &R,
     alloc: Global,
@@ -86,7 +86,7 @@ pub fn run<R: Threads + Sync, S: Source, K: Sink, E: Sink, F: Shelf, G: Gate + S
           meters = meters_of (λ meter. account meter) meters.old.items meters.new.items;
         })
         (outside_of E.held E.faults err.old err.new) result }
-    // The shelf is asked neither for a built-in profile, nor where a word is refused.
+    // The shelf is not asked if the profile is built in, and not if a word is refused.
     ensures unasked { IsSome (built_in (profile_named words.now)) → (shelf.new ≡ shelf.old) }
     ensures refused_unasked { IsErr (job_meaning words.now) → (shelf.new ≡ shelf.old) }
 {

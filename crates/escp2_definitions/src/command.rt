@@ -17,7 +17,7 @@ pub struct RasterHead {
     pub n: u16,
 }
 
-/// A command (ESC/P Reference Manual, graphics commands). The rows of a raster are kept beside it.
+/// A command (ESC/P Reference Manual, graphics commands). The rows of a raster are kept apart from its command.
 #[derive(Clone, Copy, Debug, PartialEq, Eq)]
 pub enum Command {
     /// `ESC @`: reset.

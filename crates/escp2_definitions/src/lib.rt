@@ -2,13 +2,13 @@
 //! commands and gives sheets of dots.
 //!
 //! The command table and the machine are this project's own profile after Epson's ESC/P Reference Manual.
-//! `specs/Commands.antt` has the table, the spellings and how bytes are read; `RowCode.antt` the code of rows, and
-//! `Least.antt` the shortest code of a row; `Written.antt` what a writer makes of a command; `Machine.antt` the
-//! machine; `JobEnds.antt` how a job ends. The types are declared here because the definitions mention them; the crates
-//! that answer them re-export them.
+//! `specs/Commands.antt` defines the table, the spellings and the reading of bytes; `RowCode.antt` the code of rows;
+//! `Least.antt` the shortest code of a row; `Written.antt` the bytes that a writer makes of a command; `Machine.antt`
+//! the machine; `JobEnds.antt` how a job ends. The types are declared here because the definitions mention them. The
+//! crates that return them re-export them.
 //!
-//! `in_table` is exactly the test of the command table's ranges, and `colour_code` gives the code of an ink. Neither
-//! takes memory.
+//! `in_table` tests exactly the ranges of the command table. `colour_code` returns the code of an ink. Neither
+//! allocates memory.
 #![tactic(auto)]
 
 mod command;

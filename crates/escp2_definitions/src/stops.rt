@@ -1,7 +1,7 @@
 //! Why a print job stops.
 use thiserror::Error;
 
-/// Why bytes are no command.
+/// Why bytes are not a command.
 #[derive(Clone, Copy, Debug, PartialEq, Eq)]
 pub enum JobCause {
     /// No command of the table has this byte here.
@@ -10,7 +10,7 @@ pub enum JobCause {
     BadLength,
     /// A number out of its range.
     BadValue,
-    /// A control byte of a coded row that is refused, or that goes past its row.
+    /// A control byte of a coded row that is refused, or whose count passes the end of its row.
     RunCode,
 }
 
@@ -23,13 +23,13 @@ pub enum EmulatorFault {
     /// A length or a position before any unit was set.
     #[error("a length or a position without a unit")]
     NoUnit,
-    /// A command that needs margins, or the length of the sheet, before these were set.
+    /// A command that comes before the margins or the length of the sheet that it needs.
     #[error("the length of the sheet or its margins are missing")]
     NoMargins,
     /// A raster whose steps are not the printer's.
     #[error("steps that are not the printer's")]
     Density,
-    /// A raster with another number of rows than the printer has nozzles.
+    /// A raster whose number of rows is not the printer's number of nozzles.
     #[error("not one row for each nozzle")]
     Rows,
     /// A move up the sheet, or a reset, a length or margins while the sheet has dots.
@@ -41,7 +41,7 @@ pub enum EmulatorFault {
     /// A place that is not on the sheet.
     #[error("a place that is not on the sheet")]
     OffSheet,
-    /// A dot where a dot of the same ink is already.
+    /// A dot at a place that has a dot of the same ink already.
     #[error("a dot of the same ink is there already")]
     Overprint,
 }
@@ -49,12 +49,12 @@ pub enum EmulatorFault {
 /// Why a job ends before its last byte.
 #[derive(Clone, Copy, Debug, PartialEq, Eq)]
 pub enum JobStop {
-    /// The bytes are no command.
+    /// The bytes are not a command.
     Reader(JobCause),
     /// The bytes end inside a command.
     Cut,
     /// The machine refuses a command.
     Machine(EmulatorFault),
-    /// The job is longer than the greatest length that is taken.
+    /// The job is longer than the greatest accepted length.
     TooLong,
 }

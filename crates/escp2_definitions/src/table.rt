@@ -13,7 +13,7 @@ pub const RASTER_COLUMNS: u16 = MOST_COLUMNS as u16;
 pub const MOST_UNITS: u16 = 32_767;
 
 /// Whether the command's numbers are in the ranges of the command table (ESC/P Reference Manual, graphics commands; the
-/// ranges are this project's own). A command without numbers always is. The rows of a raster are not tested.
+/// ranges are this project's own). A command without numbers always passes. The rows of a raster are not tested.
 pub fn in_table(command: &Command) -> bool
     ensures { result ≡ in_table_of command.now }
 {

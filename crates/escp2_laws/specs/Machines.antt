@@ -1,11 +1,11 @@
 -- Worked states of the machine of a printer with one nozzle, 360 dots an inch both ways.
-use Rattle.std.specs.Prelude.{ℕ, true, List, [], ◌∷◌, ◌++◌, Option, Some}
+use Rattle.std.specs.Prelude.{ℕ, ◌-◌, ◌*◌, true, List, [], ◌∷◌, ◌++◌, Option, Some}
 use Rattle.printer_definitions.specs.declared.inks.Ink.TheVariants.{Black}
 use Rattle.printer_definitions.specs.Printer.{tiny1}
 use Rattle.escp2_definitions.specs.declared.command.Command.{Command}
 use Rattle.escp2_definitions.specs.declared.command.Command.TheVariants as c
 use Rattle.escp2_definitions.specs.declared.stops.EmulatorFault.{EmulatorFault}
-use Rattle.escp2_definitions.specs.Commands.{Entry}
+use Rattle.escp2_definitions.specs.Commands.{Entry, last_column}
 use Rattle.escp2_definitions.specs.Machine.{Machine, Printed, execute, first_refusal, refusals, start}
 use Rattle.escp2_laws.specs.Examples.{said}
 
@@ -29,9 +29,13 @@ on_sheet = record with_unit { page = Some 60; margins = Some (record { top = 0; 
 abbrev pub off_column : Machine
 off_column = record on_sheet { across = 5 }
 
--- with a dot in the last column but one
+-- the place of the last column, counted from the left margin
+abbrev pub last_place : ℕ
+last_place = 10 * (last_column - 1)
+
+-- with a dot in the last column
 abbrev pub with_dot : Machine
-with_dot = record on_sheet { across = 81900; dots = record { ink = Black; x = 81900; y = 0 } ∷ [] }
+with_dot = record on_sheet { across = last_place; dots = record { ink = Black; x = last_place; y = 0 } ∷ [] }
 
 -- a raster of these numbers of rows and columns, with these steps down and across
 abbrev pub raster : ℕ → ℕ → ℕ → ℕ → Command

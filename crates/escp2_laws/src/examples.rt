@@ -1,5 +1,5 @@
-//! Worked jobs: each function does nothing, and the checker computes its contract. They hold the definitions against
-//! results that were worked by hand.
+//! Worked jobs: each function does nothing, and the checker computes its contract. The contracts compare the
+//! definitions with results worked by hand.
 #![tactic(auto, unfolding(escp2_definitions::specs::Least::cost_from, escp2_definitions::specs::Least::costs, escp2_definitions::specs::Least::equal_at, escp2_definitions::specs::Least::least, escp2_definitions::specs::Least::least_packet, escp2_definitions::specs::Least::least_row, escp2_definitions::specs::Least::literals, escp2_definitions::specs::Least::packets_at, escp2_definitions::specs::Least::packets_from, escp2_definitions::specs::Least::runs, escp2_definitions::specs::Commands::command_at, escp2_definitions::specs::Commands::commands_from, escp2_definitions::specs::Machine::execute_from, escp2_definitions::specs::Machine::rows_dots, escp2_definitions::specs::RowCode::row_at, escp2_definitions::specs::RowCode::rows_at))]
 
 ghost use Rattle.escp2_definitions.specs.Commands.Heard.{One, Wrong};
@@ -43,7 +43,7 @@ pub fn listing_is_read()
     ensures end { (commands listing).end ≡ Whole }
 {}
 
-/// What the printer makes of it: one sheet, with a row of dots from each pass.
+/// The printer makes one sheet of the same job, with a row of dots from each pass.
 pub fn listing_is_printed()
     ensures { execute three_nozzles (commands listing).entries ≡ record {
       sheets = record { rows = 6; columns = 8; dots = eight_dots 40 ++ eight_dots 50 } ∷ [];
@@ -51,15 +51,15 @@ pub fn listing_is_printed()
     } }
 {}
 
-/// The same job with its first pass twice, which is refused where it would fire the same dots again; and on a printer
-/// with one nozzle.
+/// The same job with its first pass twice is refused where it would fire the same dots again. A printer with one nozzle
+/// refuses the job itself.
 pub fn listing_is_refused()
     ensures overprint { (execute three_nozzles (commands listing_overprinted).entries).refused ≡
         refused 65 Overprint }
     ensures density { refusal listing ≡ refused 50 Density }
 {}
 
-/// Bytes that are no job, and the place of the fault.
+/// Bytes that are not a job, and the place of the fault.
 pub fn faults_are_told()
     ensures cut { end_of (take 10 listing) ≡ Cut 8 }
     ensures unknown { end_of (0x1B ∷ 0x41 ∷ []) ≡ Fault 1 Unknown }
@@ -72,7 +72,7 @@ pub fn faults_are_told()
     // two bytes in a row of one
     ensures past_row { end_of (0x1B ∷ 0x2E ∷ 0x01 ∷ 0x14 ∷ 0x0A ∷ 0x01 ∷ 0x08 ∷ 0x00
         ∷ 0x01 ∷ 0x00 ∷ 0x00 ∷ []) ≡ Fault 8 RunCode }
-    // 11 bytes, where no more than 10 are taken
+    // 11 bytes, if a job may have at most 10
     ensures too_long { job_end (take 11 listing) 10 None ≡ Some (record { at = 10; why = TooLong }) }
 {}
 
@@ -83,9 +83,9 @@ pub fn early_rasters_are_refused()
     ensures no_margins { refusal (graphics ++ unit_5 ++ black_row) ≡ refused 12 NoMargins }
 {}
 
-/// What is refused on a sheet of six rows.
+/// Commands that are refused on a sheet of six rows.
 pub fn commands_are_refused()
-    // two rows, where the printer has one nozzle
+    // two rows for a printer with one nozzle
     ensures rows { sheet_refusal (0x1B ∷ 0x2E ∷ 0x00 ∷ 0x0A ∷ 0x0A ∷ 0x02 ∷ 0x08 ∷ 0x00
         ∷ 0xFF ∷ 0xFF ∷ []) ≡ refused 46 Rows }
     // down to 4 units, and then up to 2
@@ -105,7 +105,7 @@ pub fn commands_are_refused()
     ensures overprint { sheet_refusal (black_row ++ 0x0D ∷ black_row) ≡ refused 56 Overprint }
 {}
 
-/// A sheet is 22 inches long at most, and its bottom margin is on it.
+/// A sheet is at most 22 inches long, and its bottom margin is on the sheet.
 pub fn pages_are_limited()
     // the most lines of a page in units of 5/3600 inch, and one unit more
     ensures longest { refusal (unit_5 ++ 0x1B ∷ 0x28 ∷ 0x43 ∷ 0x02 ∷ 0x00 ∷ 0xE0 ∷ 0x3D ∷ []) ≡ None }
@@ -119,7 +119,8 @@ pub fn pages_are_limited()
         ++ 0x1B ∷ 0x28 ∷ 0x63 ∷ 0x04 ∷ 0x00 ∷ 0x00 ∷ 0x00 ∷ 0x0D ∷ 0x00 ∷ []) ≡ refused 13 OffSheet }
 {}
 
-/// A row has as many columns as a page, at most: a dot in the last of them, and one to the right of it.
+/// A row has at most as many columns as a page: a dot in the last column is accepted, and a dot to its right is
+/// refused.
 pub fn columns_are_limited()
     ensures last { refusal (graphics ++ unit_10 ++ length_12 ++ margins_12
         ++ 0x1B ∷ 0x24 ∷ (last_column - 1) % 256 ∷ (last_column - 1) / 256 ∷ one_dot) ≡ None }
@@ -150,8 +151,8 @@ pub fn widest_row_is_read()
         One (c.Raster (record { c = 0; v = 10; h = 10; m = 1; n = last_column })) (replicate most_row_bytes 0) (8 + most_row_bytes) }
 {}
 
-/// A row of two runs and a byte between them, whose second run costs no less than a literal: a repeated byte, and then
-/// a literal over the second run.
+/// A row of two runs with a byte between them. The second run costs no less than a literal, so the least code is a
+/// repeated byte, and then a literal over the second run.
 pub fn least_row_is_worked()
     ensures costs { costs (0 ∷ 0 ∷ 1 ∷ 0 ∷ 0 ∷ []) ≡ 6 ∷ 5 ∷ 4 ∷ 2 ∷ 2 ∷ 0 ∷ [] }
     ensures code { least_row (0 ∷ 0 ∷ 1 ∷ 0 ∷ 0 ∷ []) ≡ 0xFF ∷ 0x00 ∷ 0x02 ∷ 0x01 ∷ 0x00 ∷ 0x00 ∷ [] }

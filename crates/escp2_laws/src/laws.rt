@@ -14,13 +14,14 @@ pub fn spelled_is_read()
         → command_at (bytes ++ rest) ≡ One command rows (length bytes) }
 {}
 
-/// No spelling of a command is a proper prefix of another's.
+/// No spelling of a command is a proper prefix of another spelling.
 pub fn no_spelling_begins_another()
     ensures { (one other : Command) (rows other_rows bytes more : List ℕ) → Spells one rows bytes
         → Spells other other_rows (bytes ++ more) → more ≡ [] }
 {}
 
-/// What is written of a command of the table and its rows spells them, where its `c` is that of the coding.
+/// The written bytes of a command of the table and its rows spell both, if the `c` of the command is that of the
+/// coding.
 pub fn written_is_spelled()
     ensures { (coding : Coding) (command : Command) (rows : List ℕ) → IsCoding coding → HasCoding coding command
         → in_table command ≡ true → length rows ≡ rows_len command

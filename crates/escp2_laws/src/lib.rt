@@ -1,7 +1,7 @@
-//! Laws of print jobs and of the code of rows, and worked jobs that the check computes. Commands and rows that are
-//! spelled are read, whatever follows; what is read as whole is spelled; and no spelling is a proper prefix of another.
-//! The least code of a row is a code of it, and no other code is shorter. What is read of a command stays read while
-//! more bytes come. Each law is the contract of an empty function.
+//! Laws of print jobs and of the code of rows, and worked jobs that the checker computes. Spelled commands and rows are
+//! read back, whatever follows. Bytes that are read as a whole command or as whole rows spell them. No spelling is a
+//! proper prefix of another. The least code of a row is a code of the row, and no other code is shorter. Later bytes do
+//! not change what was read of a command. Each law is the contract of an empty function.
 #![tactic(auto)]
 
 mod codes;

@@ -9,12 +9,12 @@ ghost use Rattle.escp2_definitions.specs.declared.stops.EmulatorFault.TheVariant
 ghost use Rattle.escp2_definitions.specs.declared.stops.EmulatorFault.TheVariants.{NotGraphics, OffGrid, OffSheet, Rows};
 ghost use Rattle.escp2_definitions.specs.declared.stops.JobCause.TheVariants.{RunCode};
 ghost use Rattle.escp2_laws.specs.Examples.{said};
-ghost use Rattle.escp2_laws.specs.Machines.{fault_of, in_graphics, off_column, on_sheet, printed_by, raster, row_entry};
-ghost use Rattle.escp2_laws.specs.Machines.{sheet_begins, with_dot, with_unit};
+ghost use Rattle.escp2_laws.specs.Machines.{fault_of, in_graphics, last_place, off_column, on_sheet, printed_by, raster};
+ghost use Rattle.escp2_laws.specs.Machines.{row_entry, sheet_begins, with_dot, with_unit};
 ghost use Rattle.printer_definitions.specs.declared.inks.Ink.TheVariants.{Black, Cyan, Magenta, Yellow};
-ghost use Rattle.std.specs.Prelude.{None, Some, [], ◌++◌, ◌∷◌, ◌≡◌};
+ghost use Rattle.std.specs.Prelude.{None, Some, [], ◌+◌, ◌++◌, ◌∷◌, ◌≡◌};
 
-/// Dots are set at the head's position, spare bits of a row are no dots, and a blank row widens its sheet too.
+/// Dots are set at the head's position. Spare bits of a row are not dots. A blank row widens its sheet too.
 pub fn rows_are_printed()
     // two columns to the right, the first and the third of three columns; bits of five more columns
     ensures across { printed_by (said 4 (c.Across 4) ∷ row_entry 3 (0xBF ∷ []) ∷ said 5 c.Eject ∷ []) ≡ record {
@@ -39,7 +39,7 @@ pub fn sheets_begin_narrow()
         record { rows = 6; columns = 1; dots = [] } ∷ [] }
 {}
 
-/// Of refusals that hold at once the earlier one is answered.
+/// If several refusals hold at once, the earliest is returned.
 pub fn the_earlier_refusal_is_told()
     ensures length { fault_of with_dot (c.Length 16000) [] ≡ Some Backward }
     ensures margins { fault_of start (c.Margins 0 12) [] ≡ Some NoUnit }
@@ -51,7 +51,8 @@ pub fn the_earlier_refusal_is_told()
     ensures no_margins { fault_of with_unit (raster 20 10 1 8) (0xFF ∷ []) ≡ Some NoMargins }
     ensures density { fault_of on_sheet (raster 20 10 2 8) (0xFF ∷ 0xFF ∷ []) ≡ Some Density }
     ensures rows { fault_of off_column (raster 10 10 2 8) (0xFF ∷ 0xFF ∷ []) ≡ Some Rows }
-    ensures off_grid { fault_of (record with_dot { across = 81905 }) (raster 10 10 1 8) (0xFF ∷ []) ≡ Some OffGrid }
+    ensures off_grid { fault_of (record with_dot { across = last_place + 5 }) (raster 10 10 1 8) (0xFF ∷ [])
+        ≡ Some OffGrid }
     ensures off_sheet { fault_of with_dot (raster 10 10 1 2) (0x80 ∷ []) ≡ Some OffSheet }
 {}
 

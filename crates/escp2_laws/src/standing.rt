@@ -1,5 +1,4 @@
-//! What is read of a command stays read while more bytes come. Each law is the contract of an empty
-//! function.
+//! Later bytes do not change what was read of a command. Each law is the contract of an empty function.
 ghost use Rattle.escp2_definitions.specs.Commands.Heard.{One, Part, Wrong};
 ghost use Rattle.escp2_definitions.specs.Commands.ListEnd.{Fault};
 ghost use Rattle.escp2_definitions.specs.Commands.{Spells, command_at, commands};
@@ -9,7 +8,7 @@ ghost use Rattle.escp2_definitions.specs.declared.stops.JobCause.{JobCause};
 ghost use Rattle.printer_definitions.specs.declared.inks.Ink.{Ink};
 ghost use Rattle.std.specs.Prelude.{List, length, slice_index, take, ℕ, ◌++◌, ◌+◌, ◌<◌, ◌≡◌, ◌≤◌};
 
-/// What is read as a whole command is spelled, with its rows, by the bytes up to its length.
+/// If bytes are read as a whole command, the bytes up to its length spell the command and its rows.
 pub fn heard_is_spelled()
     ensures within { (bytes rows : List ℕ) (command : Command) (len : ℕ) → command_at bytes ≡ One command rows len
         → len ≤ length bytes }
@@ -23,8 +22,8 @@ pub fn a_command_stands()
         → command_at (take len bytes ++ rest) ≡ One command rows len }
 {}
 
-/// A fault has a place. The bytes before that place are less than a whole command; with the byte there, and at most one
-/// more, the fault is read, whatever follows.
+/// A fault has a place. The bytes before the place are less than a whole command. With the byte at the place, and at
+/// most one more, the fault is read, whatever follows.
 pub fn a_fault_stands()
     ensures within { (bytes : List ℕ) (at : ℕ) (cause : JobCause) → command_at bytes ≡ Wrong at cause
         → at < length bytes }
@@ -45,7 +44,7 @@ pub fn a_fault_ends_a_job()
         → commands (bytes ++ rest) ≡ commands bytes }
 {}
 
-/// The bytes of a job have no fewer rasters of an ink than a prefix of them.
+/// A prefix of a job's bytes has no more rasters of an ink than all of the bytes.
 pub fn a_prefix_has_no_more_rasters()
     ensures { (ink : Ink) (bytes rest : List ℕ)
         → ink_rasters ink (commands bytes).entries ≤ ink_rasters ink (commands (bytes ++ rest)).entries }

@@ -18,7 +18,7 @@ pub struct PlacedCommand {
     pub command: Command,
 }
 
-/// Why no further command is answered.
+/// Why no further command is returned.
 #[derive(Clone, Copy, Debug, PartialEq, Eq)]
 pub enum FeedStop {
     /// The job is refused at this offset.
@@ -56,8 +56,8 @@ impl JobFeed {
     ghost use Rattle.escp2_reader.specs.Feeding.{text_of, unread_of};
     ghost use Rattle.escp2_reader.specs.Pieces.{FeedsSome};
 
-    /// A feed of a job from its first byte on. It takes the memory of the reader and of a buffer; no other call takes
-    /// memory.
+    /// A feed of a job from its first byte on. `make` allocates the memory of the reader and of a buffer. No other call
+    /// allocates memory.
     pub fn make(alloc: Global, most: u64) -> Result<JobFeed, Memory>
         requires { most < 2 ^ 63 }
         ensures between { IfOk result IsBetween }
@@ -73,7 +73,7 @@ impl JobFeed {
         })
     }
 
-    /// The next command, or `None` at the end of the job. `rows` then has the rows of a raster.
+    /// The next command, or `None` at the end of the job. After a raster `rows` has its rows.
     pub fn next<S: Source>(&mut self, source: &mut S) -> Result<Option<PlacedCommand>, FeedStop>
         requires { IsBetween self.old }
         ensures command { IfOk result (λ o. IfSome o (λ placed.
@@ -112,7 +112,8 @@ impl JobFeed {
         }
     }
 
-    /// The rows of the raster that `next` just answered, the top one first, packed and not coded; else none.
+    /// The rows of the raster that `next` just returned, the top row first, packed and not coded. Empty if `next`
+    /// returned no raster.
     pub fn rows(&self) -> &[u8]
         ensures { result.now ≡ heard_of self.now }
     {

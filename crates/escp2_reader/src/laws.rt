@@ -5,8 +5,8 @@ ghost use Rattle.escp2_definitions.specs.declared.command.Command.{Command};
 ghost use Rattle.escp2_reader.specs.Jobs.{AreCommands};
 ghost use Rattle.std.specs.Prelude.{[], length, List, ℕ, ◌++◌, ◌∷◌, ◌≡◌};
 
-/// No bytes are no commands. Where bytes are whole commands, and those after them are one more, both together are these
-/// commands and the one more, at the offset of its first byte.
+/// Zero bytes are zero commands. If some bytes are whole commands, and the bytes after them are one more, then all of
+/// the bytes are these commands and the one more, at the offset of its first byte.
 pub fn commands_follow()
     ensures none { AreCommands [] [] }
     ensures more { (done bytes : List ℕ) (entries : List Entry) (command : Command) (rows : List ℕ)

@@ -32,7 +32,7 @@ pub enum HeardState {
     More,
     /// A whole command; `JobReader::rows` has the rows of a raster.
     One(Command),
-    /// The bytes are no command. The offset is that of the byte, or of the low byte of the number, that is refused.
+    /// The bytes are not a command. The offset is that of the refused byte, or of the low byte of the refused number.
     Fault { offset: u64, cause: JobCause },
 }
 
@@ -103,8 +103,8 @@ impl JobReader {
         })
     }
 
-    /// Reads the next bytes of the job, of any number, up to the end of the command. It takes no memory. A fault is
-    /// answered with the byte that shows it, and again at each later call, with nothing used.
+    /// Reads the next bytes of the job, any number of them, up to the end of the command. The call allocates no memory.
+    /// A fault is returned with the byte that shows it. Each later call returns the fault again, and uses nothing.
     pub fn feed(&mut self, piece: &[u8]) -> Heard
         requires { fed_of self.old + length piece.now < 2 ^ 63 }
         ensures used { result.used ≤ length piece.now }
@@ -126,7 +126,8 @@ impl JobReader {
         }
     }
 
-    /// The rows of the raster that `feed` just answered, the top one first, packed and not coded; else none.
+    /// The rows of the raster that `feed` just returned, the top row first, packed and not coded. Empty if `feed`
+    /// returned no raster.
     pub fn rows(&self) -> &[u8]
         ensures { result.now ≡ rows_of self.now }
     {
@@ -136,7 +137,7 @@ impl JobReader {
         }
     }
 
-    /// `Ok` where the job may end here, between two commands.
+    /// `Ok` if the job may end here, between two commands.
     pub fn end(&self) -> Result<(), Cut>
         requires { is_failed_of self.now ≡ false }
         ensures whole { OnOk result ((sofar : List ℕ) → StandsFor self.now sofar → sofar ≡ []) }

@@ -1,4 +1,4 @@
-//! The costs of a row: the fewest bytes that code it from each of its places on.
+//! The costs of a row: for each place, the fewest bytes that code the row from there on.
 ghost use Rattle.arrayvec.specs.ArrayVec.{array_vec_len};
 ghost use Rattle.base_definitions.specs.Limits.{most_row_bytes};
 ghost use Rattle.escp2_rows.specs.Ends.{IsEnd, IsFilled};
@@ -10,7 +10,7 @@ use crate::literals::is_three;
 use arrayvec::ArrayVec;
 use base_definitions::MOST_ROW_BYTES;
 
-/// The places of the widest row, with the one behind its end.
+/// The places of the widest row, and the place after its end.
 pub(crate) const MOST_PLACES: usize = MOST_ROW_BYTES + 1;
 
 /// The costs of one row of at most `MOST_ROW_BYTES` bytes.
@@ -165,7 +165,7 @@ fn fill_before(row: &[u8], table: &mut [u16], filled: Filled) -> Filled
     }
 }
 
-/// Writes the costs of a row over what the table has.
+/// Overwrites the table with the costs of a row.
 pub fn fill_costs(row: &[u8], table: &mut [u16])
     requires most { length row.now ≤ most_row_bytes }
     requires sized { length table.old ≡ length row.now + 1 }
@@ -182,8 +182,9 @@ pub fn fill_costs(row: &[u8], table: &mut [u16])
     }
 }
 
-/// The fewest bytes that code a row of at most `MOST_ROW_BYTES` bytes from each of its places on (ESC/P Reference
-/// Manual, run length encoding of `ESC .`). `out` is empty before. It takes no memory.
+/// Writes the costs of a row of at most `MOST_ROW_BYTES` bytes into `out`, which must be empty: for each place, the
+/// fewest bytes that code the row from there on (ESC/P Reference Manual, run length encoding of `ESC .`). The call
+/// allocates no memory.
 pub fn cost_table(row: &[u8], out: &mut CostTable)
     requires most { length row.now ≤ most_row_bytes }
     requires empty { out.old.items ≡ [] }

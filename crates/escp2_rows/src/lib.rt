@@ -1,15 +1,16 @@
-//! The code of raster rows (ESC/P Reference Manual, run length encoding of `ESC .`): rows read from pieces of any
-//! length, and the least code of a row, which is written. `escp2_laws` shows that this code is one of its row, and that
-//! no other is shorter.
+//! The code of raster rows (ESC/P Reference Manual, run length encoding of `ESC .`): a reader of rows from pieces of
+//! any length, and a writer of the least code of a row. `escp2_laws` proves that the least code is a code of its row,
+//! and that no other code is shorter.
 //!
 //! A `RowReader` stands for the bytes of rows that it has read (`StandsFor`), however they were cut into pieces. `feed`
-//! appends exactly what the bytes that it uses give, to a vector that has room for all that is left, and answers `More`
-//! where the whole piece was used and the rows are not yet whole; `Whole` where the rows end with the last byte that
-//! was used, whatever follows; and `Fault` where that byte is a control byte of 128, or one whose count passes the end
-//! of its row, whatever follows. After the last two the reader is done and may not be fed.
+//! appends exactly the bytes of rows that the used bytes give, to a vector that has room for all that is left. `feed`
+//! returns `More` if the whole piece was used and the rows are not yet whole; `Whole` if the rows end with the last
+//! byte that was used, whatever follows; and `Fault` if the last byte that was used is a control byte of 128, or one
+//! whose count passes the end of its row, whatever follows. After `Whole` or `Fault` the reader is done and must not be
+//! fed.
 //!
-//! `cost_table` gives the costs of a row of at most `MOST_ROW_BYTES` bytes. `code_row` writes exactly the least code of
-//! such a row, into a slice of at least twice the row's length. No call takes memory.
+//! `cost_table` computes the costs of a row of at most `MOST_ROW_BYTES` bytes. `code_row` writes exactly the least code
+//! of such a row, into a slice of at least twice the row's length. No call allocates memory.
 #![tactic(auto)]
 
 mod buffer;

@@ -1,4 +1,4 @@
-//! Where the first literal of a row ends, told by the bytes that follow it.
+//! Where the first literal of a row ends, found from the bytes that follow it.
 ghost use Rattle.escp2_definitions.specs.Least.{equal_at};
 ghost use Rattle.escp2_rows.specs.Literals.{IsLongest};
 ghost use Rattle.escp2_rows.specs.Passing.{EndsAt, GoesOn, IsLevel, OnEnds, OnGoes, are_three, first_of_sixteen, run_of};
@@ -236,8 +236,8 @@ fn end_from(row: &[u8], first: usize) -> Option<usize>
     }
 }
 
-/// How many bytes the longest literal at the beginning of a row has that costs least, where its first two bytes differ.
-/// `None` where the bytes do not tell it without the costs of the row.
+/// The length of the longest literal of least cost at the beginning of a row whose first two bytes differ. `None` if
+/// the bytes do not tell the length without the costs of the row.
 pub(crate) fn literal_end(row: &[u8]) -> Option<usize>
     requires { equal_at row.now ≡ 1 }
     ensures { IfSome result (IsLongest row.now) }

@@ -61,8 +61,8 @@ impl RowReader {
     ghost use Rattle.escp2_rows.specs.Reading.{EndsPacket, Gives, IsFault, IsMore, IsWhole, OnFault, OnMore, OnWhole};
     ghost use Rattle.escp2_rows.specs.Reading.{StandsFor, Takes, bytes_left_of, is_done_of};
 
-    /// A reader of `rows` rows of `row_bytes` bytes, which are plain where `c` is 0 and else coded. Plain
-    /// rows are read as one row of bytes as they are.
+    /// A reader of `rows` rows of `row_bytes` bytes. The rows are plain if `c` is 0, and coded if `c` is 1. Plain rows
+    /// are read as one row of bytes as they are.
     pub fn begin(c: u8, row_bytes: u16, rows: u8) -> RowReader
         requires form { c ≤ 1 }
         requires narrowest { 1 ≤ row_bytes }
@@ -95,9 +95,9 @@ impl RowReader {
         }
     }
 
-    /// Reads the next bytes of the rows, of any number, and appends the bytes of rows that they give. It takes no
-    /// memory: `out` has room for the bytes that are left, and keeps it. It stops after the last row, or after a
-    /// control byte that is refused.
+    /// Reads the next bytes of the rows, any number of them, and appends the bytes of rows that they give. The call
+    /// allocates no memory: `out` must have room for the bytes that are left, and keeps this room. `feed` stops after
+    /// the last row, or after a control byte that is refused.
     pub fn feed(&mut self, piece: &[u8], out: &mut Vec<u8>) -> RowFed
         requires is_open { is_done_of self.old ≡ false }
         requires room { vec_len out.old + bytes_left_of self.old ≤ vec_capacity out.old }

@@ -7,6 +7,9 @@ ghost use Rattle.std.specs.Prelude.{IfSome, length, take, ◌*◌, ◌<◌, ◌�
 use crate::costs::{MOST_BYTES, MOST_PLACES, fill_costs};
 use crate::literals::{equal_bytes, literal_end};
 
+// The places of a row of 8.5 inches at 360 dots an inch, with the one behind its end.
+const FEW_PLACES: usize = 384;
+
 // The fewest bytes that are sent as a run.
 const LEAST_RUN: usize = 2;
 
@@ -99,17 +102,31 @@ fn write_packets(row: &[u8], table: &[u16], out: &mut [u8]) -> usize
     len
 }
 
-// Writes the code of a row by the costs of its places, and gives its length.
+// Writes the code of a row by the costs of its places, over what `room` has, and gives its length.
+fn write_within(room: &mut [u16], row: &[u8], out: &mut [u8]) -> usize
+    requires most { length row.now ≤ most_row_bytes }
+    requires places { length row.now < length room.old }
+    requires room { 2 * length row.now ≤ length out.old }
+    ensures code { take result out.new ≡ least_row row.now }
+    ensures short { result ≤ 2 * length row.now }
+{
+    let table = &mut room[..=row.len()];
+    fill_costs(row, table);
+    write_packets(row, table, out)
+}
+
+// Writes the code of a row by the costs of its places, and gives its length. A small table is cleared sooner.
 fn write_by_costs(row: &[u8], out: &mut [u8]) -> usize
     requires most { length row.now ≤ most_row_bytes }
     requires room { 2 * length row.now ≤ length out.old }
     ensures code { take result out.new ≡ least_row row.now }
     ensures short { result ≤ 2 * length row.now }
 {
-    let mut room = [0; MOST_PLACES];
-    let table = &mut room[..=row.len()];
-    fill_costs(row, table);
-    write_packets(row, table, out)
+    if row.len() < FEW_PLACES {
+        write_within(&mut [0; FEW_PLACES], row, out)
+    } else {
+        write_within(&mut [0; MOST_PLACES], row, out)
+    }
 }
 
 // Writes the code of the first packet of a row to the beginning of `out`, where the bytes tell it without the costs.
@@ -126,8 +143,8 @@ fn write_front(row: &[u8], out: &mut [u8]) -> Option<Written>
     Some(write_literal(row, count, out))
 }
 
-/// Writes the least code of a row of at most `MOST_ROW_BYTES` bytes to the beginning of `out`, and gives its length: at
-/// most twice that of the row. It takes no memory.
+/// Writes the least code of a row of at most `MOST_ROW_BYTES` bytes to the beginning of `out`, and returns the length
+/// of the code, at most twice that of the row. The call allocates no memory.
 pub fn code_row(row: &[u8], out: &mut [u8]) -> usize
     requires most { length row.now ≤ most_row_bytes }
     requires room { 2 * length row.now ≤ length out.old }

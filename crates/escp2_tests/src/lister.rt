@@ -1,4 +1,4 @@
-//! Listings of whole, refused and cut jobs.
+//! Listings of whole, refused and truncated jobs.
 use crate::checks::{same, same_bytes, sink, source};
 use escp2_definitions::JobCause;
 use job_fixtures::TINY_JOB;

@@ -1,4 +1,4 @@
-//! The job that was worked out by hand, cut anywhere, and bytes that are no command.
+//! The job that was worked out by hand, cut in two at each place, and bytes that are not a command.
 ghost use Rattle.escp2_reader.specs.Reading.{fed_of, is_failed_of, shows_fault};
 ghost use Rattle.std.specs.Prelude.{IfOk, false, length, ◌+◌, ◌<◌, ◌≡◌, ◌≤◌, ◌^◌};
 

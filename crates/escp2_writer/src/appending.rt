@@ -8,8 +8,8 @@ use crate::Command;
 use crate::headers::header_bytes;
 use escp2_rows::code_row;
 
-/// Appends the bytes of a command, for a raster without its rows. The vector has room for them, so that no memory is
-/// taken.
+/// Appends the bytes of a command, for a raster without its rows. The vector must have room for the bytes, so the call
+/// allocates no memory.
 pub fn append_header(command: &Command, out: &mut Vec<u8>)
     requires { vec_len out.old + length (command_bytes command.now) ≤ vec_capacity out.old }
     ensures items { out.new.items ≡ out.old.items ++ command_bytes command.now }
@@ -30,8 +30,8 @@ fn code_behind(row: &[u8], begin: usize, out: &mut [u8]) -> usize
     code_row(row, &mut out[begin..])
 }
 
-/// Appends the least code of a row that is no wider than a page. The vector has room for twice the row's length, so
-/// that no memory is taken.
+/// Appends the least code of a row that is no wider than a page. The vector must have room for twice the row's length,
+/// so the call allocates no memory.
 pub fn append_row(row: &[u8], out: &mut Vec<u8>)
     requires most { length row.now ≤ most_row_bytes }
     requires room { vec_len out.old + 2 * length row.now ≤ vec_capacity out.old }

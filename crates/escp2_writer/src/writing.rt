@@ -50,11 +50,11 @@ fn put_coded<K: Sink>(
     bytes.put(out)
 }
 
-/// Writes the command and then its rows: a raster's rows plain where its `c` is 0 and else coded, the top one first
-/// (ESC/P Reference Manual, graphics commands), and none for the other commands. It takes no memory.
+/// Writes the command and then its rows, the top row first (ESC/P Reference Manual, graphics commands). The rows of a
+/// raster are plain if its `c` is 0, and coded otherwise. Other commands have no rows. The call allocates no memory.
 ///
-/// `Err` comes where a write of the sink failed, which the sink counts; then the sink has taken a proper prefix of
-/// the bytes.
+/// `Err` means that a write of the sink failed, which the sink counts. The sink has then taken a proper prefix of the
+/// bytes.
 pub fn put<K: Sink>(command: &Command, rows: &[u8], out: &mut K) -> Result<(), Failed>
     requires in_range { in_table command.now ≡ true }
     requires rows_fit { length rows.now ≡ rows_len command.now }

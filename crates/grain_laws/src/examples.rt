@@ -3,8 +3,9 @@ ghost use Rattle.printer_definitions.specs.declared.inks.Ink.TheVariants.{Black,
 ghost use Rattle.separation_definitions.specs.Grain.{grain_place, grained};
 ghost use Rattle.std.specs.Prelude.{◌≡◌};
 
-/// The first places of a row and of a column, a place of another ink, and one far to the right and down. Grain moves an
-/// amount in the middle by up to as much, one near white or near the limit by less, and white and the limit by nothing.
+/// The first places of a row and of a column, a place of another ink, and a place far to the right and down. Grain
+/// moves an amount in the middle by up to the grain, and an amount near white or near the limit by less. White and the
+/// limit do not move.
 pub fn amounts_at_places()
     ensures first { grain_place Black 0 0 ≡ 0 }
     ensures right { grain_place Black 1 0 ≡ 49471 }

@@ -1,4 +1,4 @@
-//! The laws.
+//! The laws of the grain.
 ghost use Rattle.diffusion_definitions.specs.Diffusion.{Table, errors, no_top, on};
 ghost use Rattle.grain_laws.specs.Times.{times_along};
 ghost use Rattle.page_definitions.specs.Dots.{halftone};
@@ -34,7 +34,7 @@ pub fn amounts_stay_near()
     ensures down { (grain limit place a : ℕ) → place < 65536 → a ≤ grained grain limit place a + grain }
 {}
 
-/// The mean is kept: along 65,536 columns of a row each amount that is at most `reach` from an amount stands for it
+/// The mean is kept: along 65,536 columns of a row each amount that is at most `reach` from a given amount replaces it
 /// equally often, or once more.
 pub fn mean_is_kept()
     ensures { (grain limit a x y : ℕ) (ink : Ink) (step : ℕ) → step ≤ 2 * reach grain limit a

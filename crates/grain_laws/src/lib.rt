@@ -1,6 +1,6 @@
-//! Laws of the grain, each the contract of a function that does nothing: white and full ink stay, no amount moves by
-//! more than the grain, no grain moves none, and the mean of a colour is kept. Worked places compare the definition
-//! with numbers worked by hand.
+//! Laws of the grain, each the contract of a function that does nothing. White and full ink stay. No amount moves by
+//! more than the grain, and without grain no amount moves. The mean of a colour is kept. Worked places compare the
+//! definition with numbers worked by hand.
 #![tactic(auto)]
 
 mod examples;

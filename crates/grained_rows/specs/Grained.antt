@@ -40,7 +40,7 @@ abbrev pub row_start : ℕ → ℕ → Place → ℕ → ℕ
 row_start number first p r =
     (3166144 * p.c + 32130 * r + 37344 * (first + 32 * p.j + r) + 16384 * number) % 65536
 
--- Row r of a tile has its amounts of an ink with grain, and all others are unchanged. The tile's rows begin at row
+-- Row r of a tile has its amounts of an ink with grain, and all others are unchanged. The tile's slab begins at row
 -- `first` of the window.
 pub record GrainsRow (g : InkGrain) (ink : Ink) (first : ℕ) (p : Place) (r : ℕ) (old new : List ℕ) : Type 0 where
   pub pixel : (offset x y : ℕ) → IsAt p r offset x y → slice_index new (64 * r + offset)

@@ -5,7 +5,7 @@ ghost use Rattle.std.specs.Prelude.{◌≡◌};
 use printer_definitions::InkSet;
 use printer_profile::Profile;
 
-/// The grain of a page, and the inks on which it is put, with their limits.
+/// The grain of a page, and the inks to which it is applied, with their limits.
 #[derive(Clone, Copy, Debug, PartialEq, Eq)]
 pub struct InkGrain {
     pub(crate) grain: u8,
@@ -14,7 +14,7 @@ pub struct InkGrain {
 }
 
 impl InkGrain {
-    /// That of a printer's inks.
+    /// The grain of a printer's inks.
     pub fn make(p: &Profile, grain: u8) -> InkGrain
         ensures { result ≡ grain_of p.now grain }
     {

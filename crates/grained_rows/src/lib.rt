@@ -1,8 +1,8 @@
-//! Rows of amounts with grain put on.
+//! Rows of amounts with grain applied.
 //!
-//! `GrainedRows` are `TileRows`: a tile has the amounts that it has in other rows, with the grain of their places. The
-//! other rows keep their amounts, so that a repeated line is still kept once, and the thread that works a tile puts its
-//! grain on.
+//! `GrainedRows` are `TileRows`: a tile has the amounts that it has in other rows, with the grain of their places
+//! applied. The other rows keep their amounts, so a repeated line is still kept once. The thread that works a tile
+//! applies the tile's grain.
 #![tactic(auto)]
 
 mod grain;

@@ -1,4 +1,4 @@
-//! Grain put on the amounts of a tile.
+//! Grain applied to the amounts of a tile.
 ghost use Rattle.grained_rows.specs.Grained.{GrainsInks, GrainsRow, GrainsRows, row_start};
 ghost use Rattle.printer_definitions.specs.Inks.{ink_place, inks_of};
 ghost use Rattle.separation_definitions.specs.Grain.{grained};
@@ -134,7 +134,7 @@ impl InkGrain {
         }
     }
 
-    /// Puts grain on a tile in every ink, where the tile's rows begin at row `first` of the window.
+    /// Applies grain to a tile in every ink. The tile's slab begins at row `first` of the window.
     pub(crate) fn put_on(&self, first: u32, place: Place, out: &mut TileAmounts)
         ensures { GrainsInks self.now first place (length (inks_of self.now.inks)) out.old.inks out.new.inks }
     {

@@ -7,7 +7,7 @@ use crate::grain::InkGrain;
 use dot_planes::{TileAmounts, TileBytes, TileRows};
 use tile_shape::{Place, Shape};
 
-/// Rows of a window with grain put on.
+/// Rows of a window with grain applied.
 #[derive(Drop)]
 pub struct GrainedRows<'a, A: TileRows> {
     rows: &'a A,
@@ -18,7 +18,7 @@ pub struct GrainedRows<'a, A: TileRows> {
 }
 
 impl<'a, A: TileRows> GrainedRows<'a, A> {
-    /// These rows with grain, where the first of them is row `first` of the window.
+    /// These rows with grain. The first of the rows is row `first` of the window.
     pub fn over(rows: &'a A, grain: InkGrain, first: u32) -> GrainedRows<'a, A>
         requires { (A.table rows.now).inks ≡ length (inks_of grain.inks) }
         ensures { ⟦<GrainedRows<'a, A> as TileRows>⟧.table result ≡ grained_table grain first (A.table rows.now) }

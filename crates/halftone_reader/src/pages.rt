@@ -36,8 +36,8 @@ pub struct HalftonedPage {
     pub planes: Planes,
 }
 
-/// Reads the next page with all its lines and halftones it, with this grain, 0 for none; the team diffuses its slabs.
-/// `None` at the end of the stream.
+/// Reads the next page with all its lines, and halftones the page with this grain, 0 for none. The team diffuses the
+/// page's slabs. Returns `None` at the end of the stream.
 pub fn read_page<R: Threads + Sync, S: Source, G: Gate + Sync>(
     team: &Team<'_, R, G>,
     alloc: Global,

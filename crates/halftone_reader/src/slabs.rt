@@ -15,8 +15,8 @@ use std::thread::Threads;
 use weave_base::Source;
 use worker_team::{Gate, Team};
 
-/// Reads lines of the page into the slab until it is full or the page has no more. Where the slab before had no room
-/// for the last repeats of a line, these come first.
+/// Reads lines of the page into the slab until the slab is full or the page has no more lines. If the slab before had
+/// no room for the last repeats of a line, these repeats come first.
 pub(crate) fn fill<S: Source>(
     filler: &mut Filler,
     reader: &mut PageReader,
@@ -37,8 +37,8 @@ pub(crate) fn fill<S: Source>(
     Ok(())
 }
 
-/// Diffuses the full slab by the team, and reads lines of the page into the next one: into the spare one while the team
-/// works, or, where there is none, into the same one after that.
+/// Diffuses the full slab by the team, and reads lines of the page into the next slab: into the spare slab while the
+/// team works, or, if there is no spare, into the same slab afterwards.
 pub(crate) fn next_slab<R: Threads + Sync, S: Source, G: Gate + Sync>(
     team: &Team<'_, R, G>,
     filler: &mut Filler,

@@ -1,4 +1,4 @@
-//! The hash FNV-1a of 64 bits, by which tests compare what is too long to be written out.
+//! The hash FNV-1a of 64 bits, by which tests compare outputs that are too long to be written out.
 #![tactic(auto)]
 
 /// The hash of these bytes.

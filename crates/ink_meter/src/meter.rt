@@ -6,7 +6,7 @@ use printer_definitions::InkCounts;
 
 /// Counts dots, ink by ink, up to a cap on all of them together.
 pub trait Meter: Drop {
-    /// Its totals and its cap.
+    /// The meter's totals and its cap.
     ghost account: { Self → Account };
 
     /// Whether the cap lets these dots be counted too. Reaching the cap exactly is allowed.
@@ -18,7 +18,7 @@ pub trait Meter: Drop {
         requires { HasRoom dots.now (account self.old) }
         ensures { account self.new ≡ added dots.now (account self.old) };
 
-    /// Sets the cap. It may be below the total: then there is no room even for 0 dots.
+    /// Sets the cap. The cap may be below the total; then there is no room even for 0 dots.
     fn set_cap(&mut self, cap: u64)
         ensures { account self.new ≡ capped cap (account self.old) };
 

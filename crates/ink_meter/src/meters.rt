@@ -16,11 +16,11 @@ const NO_DOTS: InkCounts = InkCounts {
 /// The meter that has no room.
 #[derive(Clone, Copy, Debug, PartialEq, Eq)]
 pub struct OverCap {
-    /// Its place in the list, from 0.
+    /// The meter's place in the list, from 0.
     pub index: usize,
-    /// The dots of all inks that it has counted.
+    /// The dots of all inks that the meter has counted.
     pub total: u64,
-    /// Its cap.
+    /// The meter's cap.
     pub cap: u64,
 }
 
@@ -97,8 +97,7 @@ pub fn add_all(meters: &mut Vec<Box<dyn Meter>>, dots: &InkCounts)
 }
 
 /// Sets the cap of each meter.
-// Without the condition, which the type implies, a call from another crate counts as one that makes meters of its
-// own.
+// The type implies the condition. But without it a call from another crate counts as one that makes meters of its own.
 pub fn cap_all(meters: &mut Vec<Box<dyn Meter>>, cap: u64)
     requires { cap < 2 ^ 64 }
     ensures { map (λ meter. account meter) meters.new.items
@@ -136,7 +135,7 @@ fn checked_sum(a: InkCounts, b: InkCounts) -> Option<InkCounts>
     })
 }
 
-/// Whether `settle` may be called: whether the sum of what the meters counted of each ink fits 64 bits.
+/// Whether `settle` may be called: whether the sum of the meters' counts of each ink fits 64 bits.
 pub fn can_settle(meters: &[Box<dyn Meter>]) -> bool
     ensures { IsTrue result ↔ Fits (settled (map (λ meter. account meter) meters.now)) }
 {
@@ -150,7 +149,7 @@ pub fn can_settle(meters: &[Box<dyn Meter>]) -> bool
     true
 }
 
-/// The sum of what the meters counted, ink by ink; the meters are dropped. Each sum must fit 64 bits.
+/// Drops the meters, and returns the sum of their counts, ink by ink. Each sum must fit 64 bits.
 pub fn settle(meters: Vec<Box<dyn Meter>>) -> InkCounts
     requires { Fits (settled (map (λ meter. account meter) meters.items)) }
     ensures { result ≡ settled (map (λ meter. account meter) meters.items) }

@@ -110,7 +110,7 @@ pub(crate) fn bits_of(bytes: &[u8], first: usize, many: usize) -> Values
     }
 }
 
-/// One amount where the bit is 0, another where it is 1.
+/// One amount for each bit that is 0, and another for each bit that is 1.
 #[inline(always)]
 pub(crate) fn chosen(bits: &Values, none: u8, full: u8) -> Values
     ensures none { (x : ℕ) → x < 64 → slice_index bits.now x ≡ 0 → slice_index result x ≡ none }

@@ -29,7 +29,7 @@ impl Model for BlackScale {
 }
 
 impl BlackScale {
-    /// That of a profile.
+    /// The black generation of a profile.
     pub fn make(p: &Profile) -> BlackScale
         requires { IsOk (check p.now) }
         ensures { result ≡ p.now.black_start }
@@ -41,7 +41,7 @@ impl BlackScale {
         }
     }
 
-    /// What black takes over of each shared darkness.
+    /// How much of each shared darkness black takes over.
     #[inline(always)]
     pub(crate) fn black_of(&self, common: &Values) -> Values
         ensures { (x : ℕ) → x < 64 → slice_index result x ≡ moved_to_black self.now (slice_index common.now x) }

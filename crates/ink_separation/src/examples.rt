@@ -17,8 +17,8 @@ pub fn a_curve_and_a_limit()
     ensures grey { amount light_printer Gray8 (155 ∷ []) Black ≡ 43 }
 {}
 
-/// A pixel of 10 cyan, 20 magenta, 30 yellow and 40 black, and one whose sum with black is past 255, into each set of
-/// inks. A set without an ink has an amount for it by the formula, which no page asks for.
+/// A pixel of 10 cyan, 20 magenta, 30 yellow and 40 black, and one whose sum with black is past 255, separated into
+/// each set of inks. The formula also has an amount for an ink outside of the set, which no page asks for.
 pub fn four_inks()
     ensures k { slice_index (amounts_by inks.K Cmyk8 (10 ∷ 20 ∷ 30 ∷ 40 ∷ [])) 0 ≡ 59 }
     ensures cmyk { amounts_by inks.Cmyk Cmyk8 (10 ∷ 20 ∷ 30 ∷ 40 ∷ []) ≡ 40 ∷ 10 ∷ 20 ∷ 30 ∷ [] }

@@ -67,7 +67,7 @@ pub(crate) fn least_of(a: &Values, b: &Values, c: &Values) -> Values
     values
 }
 
-/// The values less others; 0 where that is below 0.
+/// The values less others, or 0 if the difference is below 0.
 #[inline(always)]
 pub(crate) fn less(values: &Values, taken: &Values) -> Values
     ensures { (x : ℕ) → x < 64 → slice_index result x ≡ slice_index values.now x - slice_index taken.now x }

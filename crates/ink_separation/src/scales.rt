@@ -1,4 +1,4 @@
-//! From what pixels give to an ink to its amounts: the ink's tones and its limit.
+//! The amounts of an ink from what pixels give to it: by the ink's tones and its limit.
 ghost use Rattle.ink_separation.specs.Scaling.{by_ink, scaled};
 ghost use Rattle.printer_definitions.specs.Inks.{ink_place};
 ghost use Rattle.printer_definitions.specs.Printer.{straight_curve, tone_on};
@@ -10,7 +10,7 @@ use crate::pixels::{PIXELS, Values};
 use printer_definitions::Ink;
 use printer_profile::{Profile, STRAIGHT_CURVE};
 
-/// How an ink's amounts are made of what pixels give to it.
+/// How the amounts of an ink are made from what pixels give to it.
 #[derive(Drop)]
 pub(crate) enum Scale {
     /// As they are: the ink's curve is straight, and its limit is 255.
@@ -62,7 +62,7 @@ impl Scale {
         }
     }
 
-    /// That of an ink, 0 to 3 for black, cyan, magenta and yellow.
+    /// The scale of an ink, 0 to 3 for black, cyan, magenta and yellow.
     pub(crate) fn of(p: &Profile, ink: u8) -> Scale
         requires ink { ink < 4 }
         requires checked { IsOk (check p.now) }
@@ -116,7 +116,7 @@ pub(crate) struct Scales {
 }
 
 impl Scales {
-    /// Those of a printer.
+    /// The scales of a printer.
     pub(crate) fn make(p: &Profile) -> Scales
         requires { IsOk (check p.now) }
         ensures limits { result.limits ≡ p.now.limits }
@@ -155,7 +155,7 @@ impl Scales {
         self.of(ink).amounts(given)
     }
 
-    /// The amount of a number that is given to an ink.
+    /// The amount of an ink for one value that a pixel gives to it.
     #[inline(always)]
     pub(crate) fn amount(&self, ink: Ink, a: u8) -> u8
         ensures { result ≡ tone_on (slice_index_or self.now.curves (ink_place ink) []) a

@@ -41,7 +41,7 @@ pub struct Separator {
 }
 
 impl Separator {
-    /// That of a printer, for pixels of this kind and for this window.
+    /// The separator of a printer, for pixels of this kind and for this window.
     pub fn make(p: &Profile, kind: Kind, window: Window) -> Separator
         requires { IsOk (check p.now) }
         ensures { IsSeparatorOf p.now kind window result }
@@ -234,7 +234,7 @@ impl Separator {
     }
 }
 
-/// Separates one line by a separator that is made for it alone.
+/// Separates one line, by a separator made for this line alone.
 pub fn amounts(p: &Profile, kind: Kind, line: &[u8], w: Window, at: u32, out: &mut InkRows)
     requires checked { IsOk (check p.now) }
     requires wide { w.width ≤ most_columns }

@@ -26,8 +26,8 @@ fn put_values(amounts: &mut [u8], at: usize, values: &Values, many: usize)
 }
 
 impl Separator {
-    /// Sets in each ink of a tile, from index `at` on, the amounts of `many` pixels of a line from pixel `first` on.
-    /// All amounts before them are unchanged; those after them may become anything.
+    /// Sets the amounts of `many` pixels of a line, from pixel `first` on, in each ink of a tile, from index `at` on.
+    /// All amounts before these are unchanged; amounts after them may become anything.
     #[inline(always)]
     pub fn separate_into(
         &self,

@@ -1,6 +1,6 @@
 //! What tests of print jobs share: the jobs of one page on the printer `tiny` and that printer's text, worked out by
-//! hand; and slow programs that list and play print jobs, byte by byte and dot by dot. These share no code with the
-//! driver, and tests compare its runs with them.
+//! hand; and slow programs that list and play print jobs, byte by byte and dot by dot. The slow programs share no code
+//! with the driver, and tests compare the driver's runs with them.
 #![tactic(auto)]
 
 mod machine;

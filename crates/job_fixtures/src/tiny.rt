@@ -1,6 +1,6 @@
-//! Print jobs of one page on the printer `tiny`, and that printer's text. They were worked out by hand: the plain job
-//! as bytes, as commands and as the images of its sheet, the others as bytes. They are for the tests of the crates that
-//! read, run and write jobs, and of those that read and write profiles.
+//! Print jobs of one page on the printer `tiny`, and that printer's text. All were worked out by hand: the plain job as
+//! bytes, as commands and as the images of its sheet, the other jobs as bytes. They serve the tests of the crates that
+//! read, run and write jobs, and of the crates that read and write profiles.
 
 use escp2_definitions::{Command, RasterHead};
 use printer_definitions::Ink;

@@ -22,7 +22,7 @@ pub record ListsToStop (most : ℕ) (input out : Outside) (offset : ℕ) (cause 
   pub meets : MeetsStop most input.before entries offset cause
   pub writes : Appends out.before out.now (listing entries)
 
--- All commands of what was taken are listed, and more bytes could mend where it stops.
+-- All commands of what was taken are listed. These bytes are valid so far, though they may be truncated.
 pub record ListsTaken (most : ℕ) (input out : Outside) : Type 0 where
   pub entries : List Entry
   pub takes : TakesAllCommands most input.before input.now entries

@@ -26,7 +26,7 @@ fn row_dots(columns: usize, row: &[u8]) -> u32
     sum + (row[whole] >> (8 - rest)).count_ones()
 }
 
-/// How many dots the rows of a raster have. Bits past its last column are none.
+/// How many dots the rows of a raster have. Bits past its last column are not dots.
 pub fn raster_dots(header: &RasterHead, rows: &[u8]) -> u32
     requires in_range { in_table (command.Raster header.now) ≡ true }
     requires rows_fit { length rows.now ≡ rows_len (command.Raster header.now) }

@@ -42,7 +42,7 @@ impl JobCounter {
     ghost use Rattle.job_player.specs.Counting.{CountsPage, IsBetweenPages, TakesPage, counts_of, sheets_of};
     ghost use Rattle.page_definitions.specs.Printing.{GivesSheet};
 
-    /// A printer whose profile passes its checks, before any page. It takes no memory; `execute_page` does.
+    /// A printer whose profile passes its checks, before any page. `make` allocates no memory; `execute_page` does.
     pub fn make(alloc: Global, profile: &Profile) -> JobCounter
         requires { IsOk (check profile.now) }
         ensures between { IsBetweenPages profile.now result }
@@ -76,8 +76,8 @@ impl JobCounter {
         self.dots
     }
 
-    /// Runs the job of a page, and counts its sheet and the dots on it. It takes the memory for the rows of a raster
-    /// and for the dots of the sheet; after `Memory` the counter is of no more use.
+    /// Runs the job of a page, and counts its sheet and the dots on the sheet. Takes the memory for the rows of a
+    /// raster and for the dots of the sheet. After `Memory` the counter is of no more use.
     pub fn execute_page(&mut self, bytes: &[u8]) -> Result<(), Memory>
         requires room { sheets_of self.old < 2 ^ 16 }
         requires page { TakesPage self.old bytes.now }

@@ -11,10 +11,11 @@ use dot_emulator::Sheet;
 use itoa::Buffer;
 use weave_base::{Failed, Sink};
 
-/// Writes the image of an ink of the sheet, a dot as a black pixel. Inks are 0 for black, 1 cyan, 2 magenta and 3
-/// yellow. It takes no memory.
+/// Writes the image of an ink of the sheet, with each dot as a black pixel. Inks are 0 for black, 1 cyan, 2 magenta and
+/// 3 yellow. Allocates no memory.
 ///
-/// On `Err` a write of the sink failed, which the sink counts, and the sink took a proper prefix of the image.
+/// On `Err` a write of the sink failed, the sink's count of faults rose, and the sink took a proper prefix of the
+/// image.
 pub fn write_plane<K: Sink>(sheet: &Sheet, ink: u8, out: &mut K) -> Result<(), Failed>
     requires { ink < 4 }
     ensures ok { OnOk result

@@ -27,8 +27,8 @@ pub enum PlayStop {
     Memory,
 }
 
-/// Runs the job that the input holds on a printer, and writes the four images of each sheet when it is ejected. It
-/// reads at most `most` bytes of the job.
+/// Runs the job in the input on a printer, and writes the four images of each sheet when the sheet is ejected. Reads at
+/// most `most` bytes of the job.
 pub fn play_job<S: Source, K: Sink>(
     alloc: Global,
     profile: &Profile,

@@ -57,8 +57,8 @@ fn use_profile(profile: Profile) -> Result<Profile, ProfileStop>
     Ok(profile)
 }
 
-/// The profile of a name: the built-in one; else the one that the shelf's text of this name describes, of at most
-/// 65,536 bytes.
+/// The profile of a name: the built-in one if there is one, else the one that the shelf's text of this name describes.
+/// The text must have at most 65,536 bytes.
 pub fn find_profile<F: Shelf>(
     alloc: Global,
     shelf: &mut F,

@@ -1,11 +1,11 @@
-//! The profile that a command uses: a built-in one, or the one of the text of its name on the shelf, read and
-//! checked.
+//! The profile that a command uses, read and checked: a built-in one, or the one that the shelf's text of its name
+//! describes.
 //!
-//! `find_profile` gives exactly the profile that the name means (`found`), or the reason why it is refused
-//! (`refused`): of the shelf's text of this name, or of some text or none where the shelf does not report what it
-//! holds. `Failed` comes only where the shelf's count of faults rose (`failed`), which never falls (`later`); the
-//! texts stay (`stay`). For the name of a built-in profile the shelf is not asked and unchanged (`built_in`), and the
-//! answer is neither `Failed` (`unasked`) nor `Memory` (`no_memory`).
+//! `find_profile` returns exactly the profile that the name means (`found`), or why the profile is refused (`refused`).
+//! Both go by the shelf's text of this name, or by some text or none if the shelf does not report its texts. `Failed`
+//! is returned only if the shelf's count of faults rose (`failed`). The count never falls (`later`), and the texts stay
+//! (`stay`). For the name of a built-in profile the shelf is not asked and does not change (`built_in`), and the result
+//! is neither `Failed` (`unasked`) nor `Memory` (`no_memory`).
 #![tactic(auto)]
 
 mod finding;

@@ -10,7 +10,7 @@ use weave_base::ShelfStop;
 /// Why a profile is refused.
 #[derive(Clone, Copy, Debug, PartialEq, Eq)]
 pub enum ProfileCause {
-    /// It is not a built-in profile, and the shelf has no text of its name.
+    /// The name is not that of a built-in profile, and the shelf has no text of this name.
     Absent,
     /// Its text is longer than 65,536 bytes.
     TooLong,
@@ -18,17 +18,17 @@ pub enum ProfileCause {
     Text(TextCause),
     /// Its text is read, but the profile makes no sense.
     Check(ProfileFault),
-    /// A list of dead nozzles does not fit its head. `find_profile` does not answer it.
+    /// A list of dead nozzles does not fit the head of the profile. `find_profile` does not return this cause.
     Dead(DeadFault),
-    /// Its passes cannot be shingled, since half of its nozzles, rounded down, is 0 or has a common divisor with the
-    /// pitch; `gcd` is their greatest. `find_profile` does not answer it.
+    /// Its passes cannot be shingled: half of its nozzles, rounded down, is 0 or has a common divisor with the pitch.
+    /// `gcd` is their greatest common divisor. `find_profile` does not return this cause.
     NoShingle { half: u8, gcd: u8 },
 }
 
 /// Why there is no profile.
 #[derive(Clone, Copy, Debug, PartialEq, Eq)]
 pub enum ProfileStop {
-    /// It is refused at this line of its text; line 0 for the text as a whole.
+    /// The profile is refused at this line of its text. Line 0 stands for the text as a whole.
     Refused { line: u32, cause: ProfileCause },
     /// The shelf failed.
     Failed,

@@ -1,4 +1,4 @@
-//! What words give, and which earlier words stand in their way.
+//! The values that words give, and the earlier words that repeat or exclude a word.
 ghost use Rattle.job_words.specs.Meaning.{asks_for_shingles, excludes as excludes_of, given, given_profile_word};
 ghost use Rattle.job_words.specs.Meaning.{gives as gives_of};
 ghost use Rattle.job_words.specs.Rows.{key_row};
@@ -60,7 +60,7 @@ pub fn is_excluded_before(place: u32, words: &Words, word: &str) -> bool
     false
 }
 
-/// The number of the first word after the command that gives the profile, counted from 1; 0 where none does.
+/// The number of the first word after the command that gives the profile, counted from 1, or 0 if no word gives it.
 pub fn profile_word(words: &Words) -> u32
     ensures { result ≡ unwrap_or (given_profile_word (drop 1 words.now)) 0 }
 {

@@ -39,7 +39,7 @@ pub fn other_commands_have_whole_heads()
         → (job.shingle ≡ false) × (job.dead.items ≡ []) }
 {}
 
-/// A list of nozzles in rising order is read as it is written: in decimal, with commas between.
+/// A list of nozzles in rising order, written in decimal with commas between, is read back.
 #[tactic(auto, using(crate::proofs::NozzleLists::written_is_read))]
 pub fn a_written_list_is_read()
     ensures { (numbers : List ℕ) → 1 ≤ length numbers → IsRising numbers

@@ -22,7 +22,7 @@ use key_values::{cut_word, value_of};
 use pwg_definitions::Kind;
 use weave_base::Words;
 
-/// The profile where no word gives one.
+/// The profile if no word gives one.
 pub const DEFAULT_PROFILE: &str = "p360cmyk";
 
 // Pixels across and lines down a made page where no word gives them.
@@ -35,16 +35,15 @@ const DEFAULT_HEIGHT: u32 = 300;
 pub struct Job {
     /// The command.
     pub verb: Verb,
-    /// The number of the word `profile=..`, counted from 1; 0 where no word gives a profile, and the built-in one is
-    /// meant.
+    /// The number of the word `profile=..`, counted from 1, or 0 for the built-in profile if no word gives one.
     pub profile_word: u32,
     /// The kernel of error diffusion.
     pub kernel: Kernel,
-    /// How much grain is put on amounts: 0 to 32.
+    /// How much grain is applied to amounts: 0 to 32.
     pub grain: u8,
     /// How many workers: 1 to 64.
     pub workers: u8,
-    /// The most dots that the meters may count; `None` where no word gives it.
+    /// The most dots that the meters may count, or `None` if no word gives a cap.
     pub cap: Option<u64>,
     /// The most bytes of a job that are read, at most 16 GiB.
     pub most: u64,
@@ -153,7 +152,7 @@ fn job_given(verb: Verb, words: &Words) -> Job
 }
 
 /// Reads the words of a command line as a job: the command, then `key=value` in any order. Words are numbered from 1.
-/// The answer is the job, or the first refused word with its first cause in the order of `UsageCause`.
+/// Returns the job, or the first refused word with its first cause in the order of `UsageCause`.
 pub fn read_words(words: &Words) -> Result<Job, UsageFault>
     ensures { result ≡ job_meaning words.now }
 {
@@ -173,8 +172,8 @@ pub fn read_words(words: &Words) -> Result<Job, UsageFault>
     Ok(job_given(verb, words))
 }
 
-/// The name of the job's profile, of 1 to 255 bytes: `p360cmyk`, which is built in, where no word gives one. The job
-/// must be the one that was read from these words.
+/// The name of the job's profile, of 1 to 255 bytes. If no word gives one, the name is `p360cmyk`, which is built in.
+/// The job must be the one that was read from these words.
 pub fn profile_name<'a>(words: &'a Words, job: &Job) -> &'a str
     requires { job_meaning words.now ≡ Ok job.now }
     ensures { result.now ≡ profile_named words.now }

@@ -29,7 +29,7 @@ pub fn is_profile_name(text: &str) -> bool
     1 <= text.len() && text.len() <= MOST_NAME
 }
 
-/// The kernel of a name.
+/// The kernel with this name.
 pub fn kernel_named(text: &str) -> Option<Kernel>
     ensures { result ≡ kernel_of text.now }
 {
@@ -41,7 +41,7 @@ pub fn kernel_named(text: &str) -> Option<Kernel>
     }
 }
 
-/// How much grain is put on amounts: 0 to 32.
+/// How much grain is applied to amounts: 0 to 32.
 pub fn grain_value(text: &str) -> Option<u8>
     ensures { result ≡ grain_of text.now }
 {
@@ -114,7 +114,7 @@ pub fn height_value(text: &str) -> Option<u32>
     Some(number as u32)
 }
 
-/// The kind of a name.
+/// The kind of pixels with this name.
 pub fn kind_named(text: &str) -> Option<Kind>
     ensures { result ≡ kind_of text.now }
 {

@@ -1,6 +1,6 @@
 //! Texts of the form `key=value`, and decimal numbers within bounds. The words of a command line and the lines of a
-//! printer profile are made of them. No call takes memory. What a list of numbers with commas between means is defined
-//! here (`specs/Lists.antt`); the crates above read such lists.
+//! printer profile consist of such texts. No call allocates memory. `specs/Lists.antt` defines the meaning of a list of
+//! numbers with commas between. The crates above read such lists.
 #![tactic(auto)]
 
 mod laws;

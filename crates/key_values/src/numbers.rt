@@ -8,8 +8,8 @@ fn has_leading_zero(text: &[u8]) -> bool
     text.len() > 1 && text[0] == b'0'
 }
 
-/// The number that a text is in decimal digits, without a sign, a blank or a leading zero; `None` where it is out of
-/// bounds or no such text. A number too long for any type is out of bounds.
+/// The number that a text spells in decimal digits, without a sign, a blank or a leading zero. `None` if the text
+/// spells no such number, or a number out of bounds. A number too long for any type is out of bounds.
 pub fn number_within(low: u64, high: u64, text: &[u8]) -> Option<u64>
     ensures number { result ≡ number_of low high text.now }
     ensures most { IfSome result (λ number. number ≤ high) }

@@ -10,7 +10,7 @@ fn place_of(byte: u8, text: &[u8]) -> Option<usize>
     text.iter().position(|b| *b == byte)
 }
 
-/// The text before the first such byte and the text after it; `None` where there is no such byte.
+/// The text before the first such byte and the text after it, or `None` if there is no such byte.
 pub fn cut_at(byte: u8, text: &[u8]) -> Option<(&[u8], &[u8])>
     ensures { IsCut (λ b. b == byte) text.now
         (option_map (λ parts. (parts.0.now, parts.1.now)) result) }
@@ -21,7 +21,7 @@ pub fn cut_at(byte: u8, text: &[u8]) -> Option<(&[u8], &[u8])>
     }
 }
 
-/// The key and the value of a word, cut at its first `=`; `None` where it has none.
+/// The key and the value of a word, cut at its first `=`, or `None` if it has no `=`.
 pub fn cut_word(word: &str) -> Option<(&str, &str)>
     ensures { MatchOption result (is_key_value word.now ≡ false) (λ parts. (is_key_value word.now ≡ true)
         × (parts.0.now ≡ key_in word.now) × (parts.1.now ≡ value_in word.now)) }
@@ -29,7 +29,7 @@ pub fn cut_word(word: &str) -> Option<(&str, &str)>
     word.split_once('=')
 }
 
-/// The key of a word; the whole word where it has none.
+/// The key of a word, or the whole word if it has no `=`.
 pub fn key_of(word: &str) -> &str
     ensures { result.now ≡ key_in word.now }
 {
@@ -39,7 +39,7 @@ pub fn key_of(word: &str) -> &str
     }
 }
 
-/// The value of a word; empty where it has none.
+/// The value of a word. Empty if the word has no `=`.
 pub fn value_of(word: &str) -> &str
     ensures { result.now ≡ value_in word.now }
 {

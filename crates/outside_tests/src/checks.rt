@@ -1,4 +1,4 @@
-//! Comparisons of what a call gave with what was wanted.
+//! Comparisons of what a call returned with what was expected.
 use std::fmt::Debug;
 use std::process::Abort;
 

@@ -1,5 +1,5 @@
-//! Tests of sources, sinks, shelves and words, and of bytes that are read ahead or gathered: that each call can
-//! succeed, and that std's readers and writers and the disk are reached.
+//! Tests of sources, sinks, shelves and words, and of bytes that are read ahead or gathered. They show that each call
+//! can succeed, and reach std's readers and writers and the disk.
 #![tactic(auto)]
 
 #[cfg(test)]

@@ -4,12 +4,12 @@ ghost use Rattle.std.specs.Prelude.{length, ◌≡◌, ◌≤◌};
 
 use dead_nozzles::DeadNozzles;
 
-/// How a head goes over a page. The bytes of each way, and what they promise, are in `specs/Ways.antt`.
+/// How a head goes over a page. `specs/Ways.antt` defines the bytes of each way, and what these bytes promise.
 #[derive(Clone, Debug, PartialEq, Eq, Drop)]
 pub enum Way {
     /// In interleaved passes.
     Woven,
-    /// In shingled passes, which fire each row twice: its even and its odd columns.
+    /// In shingled passes, which fire each row twice: once at its even and once at its odd columns.
     Shingled,
     /// In strokes that make up for these dead nozzles.
     Healed(DeadNozzles),

@@ -132,11 +132,11 @@ ink_is : (set : InkSet) (i : ℕ) (ink : Ink) → slice_get (inks_of set) i ≡ 
 ink_is set i ink is = get_or_from_slice_get (inks_of set) i ink Black is
 
 -- A row of a slab has the amounts of its row of the page, with grain.
-row_grained : (g : InkGrain) (page : Page) (p : Printer) (i y x first : ℕ) (ink : Ink) (t : AmountTable) → g ≡ grain_of p g.grain
+pixel_grained : (g : InkGrain) (page : Page) (p : Printer) (i y x first : ℕ) (ink : Ink) (t : AmountTable) → g ≡ grain_of p g.grain
     → slice_get (inks_of p.inks) i ≡ Some ink → i < t.inks → y < t.rows → x < t.width
     → amount t i y x ≡ (ink_plane page p ink).amount (first + y) x
     → amount (grained_table g first t) i y x ≡ (grained_plane page p g.grain ink).amount (first + y) x
-row_grained g page p i y x first ink t own is place row column same =
+pixel_grained g page p i y x first ink t own is place row column same =
     let with_ink : Ink → ℕ = λ ink. grained g.grain (limit_of p ink) (grain_place ink x (first + y)) (amount t i y x) in
     cell_is (grained_amount g first t) t.inks t.rows t.width i y x place row column
     ∙ ap (λ h. grained_amount h first t i y x) own
@@ -191,7 +191,7 @@ slab_full f next d done all lines s =
           let page : Page = record { form = h.form; lines = lines ++ more } in
           let now = slab_more (table_of h.kernel) p i h.diffused f.slab.rows f.slab (grained_table d.grain f.first f.slab)
           next.slab h.top done.top (dots_in h.dots) (dots_in done.dots) all.diffused up
-          (λ y x row column. row_grained d.grain page h.profile i y x f.first ink f.slab s.grain is there row
+          (λ y x row column. pixel_grained d.grain page h.profile i y x f.first ink f.slab s.grain is there row
           (omega (arith, all.rows.width, column)) (up.amounts y x row column))
           there all.rows.width all.rows.some low all.tall all.rows.whole in
           let R : ℕ → Type 0 = λ m. IsUpTo (table_of h.kernel) p i n m (dots_in done.dots) done.top next.slab in

@@ -27,13 +27,13 @@ use wavefront_team::{DotsSoFar, diffuse_beside};
 use worker_team::{Gate, Team};
 
 /// The dots of a page's window so far. Contracts see the kernel, the grain, the dots, the bottom edges of the last
-/// diffused rows, and whether a call answered `Memory`.
+/// diffused rows, and whether a call returned `Memory`.
 #[derive(Drop)]
 pub struct Diffuser {
     alloc: Global,
     kernel: Kernel,
     grain: InkGrain,
-    /// The errors above the next rows; `None` once a call has answered `Memory`.
+    /// The errors above the next rows; `None` once a call has returned `Memory`.
     top: Option<TopEdges>,
     dots: DotsSoFar,
 }
@@ -81,15 +81,16 @@ impl Diffuser {
         })
     }
 
-    /// Whether a call has answered `Memory`.
+    /// Whether a call has returned `Memory`.
     pub fn has_failed(&self) -> bool
         ensures { result ≡ self.now.failed }
     {
         self.top.is_none()
     }
 
-    /// Diffuses the slab that begins at row `first` by the team, with grain, and does the errand beside its workers
-    /// (`wavefront_team::diffuse_beside`). `Memory` comes before the errand is begun, and at each later call.
+    /// Diffuses the slab that begins at row `first` by the team, with grain, and does the errand beside the team's
+    /// workers (`wavefront_team::diffuse_beside`). If memory runs out, the call returns `Memory` before the errand is
+    /// begun, and so does each later call.
     pub fn diffuse_beside<
         R: Threads + Sync,
         G: Gate + Sync,

@@ -1,4 +1,4 @@
-//! The rows of a page that are filled as its lines come.
+//! The rows of a page, filled as the page's lines come.
 ghost use Rattle.page_halftoner.specs.Halftones.{EndsWith, GoesOn, HoldsRows, IsFull, IsSameRows, IsSpare};
 ghost use Rattle.page_halftoner.specs.Halftones.{PutsLines};
 ghost use Rattle.printer_profile.specs.Validity.{check};
@@ -110,8 +110,8 @@ impl Filler {
         rows - self.first == self.slab.rows()
     }
 
-    /// Takes a line of the page that occurs `repeats` times in a row, until the slab is full. The answer is how often
-    /// it was taken.
+    /// Takes a line of the page that occurs `repeats` times in a row, until the slab is full. Returns how often the
+    /// line was taken.
     pub fn put(&mut self, line: &[u8], repeats: u32) -> u32
         requires line { length line.now ≡ self.old.form.bytes_per_line }
         requires repeats { self.old.count + repeats ≤ self.old.form.height }
@@ -159,8 +159,8 @@ impl Filler {
         next_slab(&mut self.slab, self.window.height - self.first);
     }
 
-    /// Room for a further slab of as many rows, where these are to be filled while this many workers diffuse the one
-    /// before; `None` for one worker.
+    /// Room for a further slab of as many rows, to be filled while this many workers diffuse the slab before. `None`
+    /// for one worker.
     pub fn spare(&self, alloc: Global, workers: u8) -> Result<Option<RawRows>, Memory>
         ensures spare { IfOk result (λ o. IfSome o (IsSpare self.now)) }
         ensures none { IfOk result (λ o. (o ≡ None) ↔ (workers ≡ 1)) }
@@ -172,7 +172,7 @@ impl Filler {
         Ok(Some(RawRows::make(alloc, separator, self.slab.rows())?))
     }
 
-    /// Goes on to the rows below a full slab, in the spare one, and leaves the full one in its place.
+    /// Goes on to the rows below a full slab, in the spare slab, and leaves the full slab in `spare`.
     pub fn swap(&mut self, spare: &mut RawRows)
         requires full { IsFull self.old }
         requires spare { IsSpare self.old spare.old }

@@ -22,11 +22,11 @@ use std::thread::Threads;
 use worker_team::{Gate, Team};
 
 /// A page that is halftoned line by line. Contracts see the profile, the form, the kernel, the grain, the number of
-/// lines so far, which lists of lines it stands for, and whether a call answered `Memory`.
+/// lines so far, which lists of lines it stands for, and whether a call returned `Memory`.
 ///
-/// Beside the planes of dots it keeps the lines of one slab: at most 256 rows of the window in whole bands, or those
-/// that are left. When the slab is full it is diffused, below the errors of the slab above. Who reads lines while slabs
-/// are diffused takes the two parts instead: a `Filler` and a `Diffuser`.
+/// Beside the planes of dots it keeps the lines of one slab: at most 256 rows of the window in whole bands, or the rows
+/// that are left. A full slab is diffused below the errors of the slab above. A caller that reads lines while slabs are
+/// diffused takes the two parts instead: a `Filler` and a `Diffuser`.
 #[derive(Drop)]
 pub struct Halftoner {
     filler: Filler,
@@ -67,8 +67,8 @@ impl Halftoner {
         Ok(Halftoner { filler, diffuser })
     }
 
-    /// Takes a line of the page that occurs `repeats` times in a row. When a slab is full, the team diffuses it.
-    /// `Memory` comes where memory for that runs out, and at each later call.
+    /// Takes a line of the page that occurs `repeats` times in a row. When a slab is full, the team diffuses the slab.
+    /// If memory for the diffusion runs out, the call returns `Memory`, and so does each later call.
     pub fn lines<R: Threads + Sync, G: Gate + Sync>(
         &mut self,
         team: &Team<'_, R, G>,

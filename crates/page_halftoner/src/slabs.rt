@@ -47,7 +47,7 @@ pub(crate) fn first_top(alloc: Global, width: u32, inks: u8) -> Result<TopEdges,
     Ok(top)
 }
 
-/// Room for the next rows, where `left` are left.
+/// Room for the next rows, if `left` rows are left.
 pub(crate) fn next_slab(slab: &mut RawRows, left: u32)
     ensures rows { IsNextSlab left (amounts_of slab.old) (amounts_of slab.new) }
     ensures separator { slab.new.separator ≡ slab.old.separator }
@@ -57,7 +57,7 @@ pub(crate) fn next_slab(slab: &mut RawRows, left: u32)
     }
 }
 
-/// Gives row y of a slab a line of a page. `again`: the row above has it, too.
+/// Puts a line of a page into row y of a slab. `again` if the row above has the same line.
 pub(crate) fn put_line(line: &[u8], again: bool, y: u32, slab: &mut RawRows)
     requires line { kept_bytes slab.old.separator ≤ length line.now }
     requires y { y < slab.old.rows }

@@ -27,13 +27,13 @@ pub fn small_page_wants_two_dots()
     ensures { wanted small_page tiny1 by_floyd ≡ black_dot 10 10 ∷ black_dot 30 10 ∷ [] }
 {}
 
-/// The bytes of its job.
+/// The bytes of the job of this page.
 pub fn small_page_has_its_bytes()
     ensures len { length small_page_bytes ≡ 70 }
     ensures bytes { page_bytes small_page tiny1 by_floyd ≡ small_page_bytes }
 {}
 
-/// What the printer makes of these bytes.
+/// The printer prints the page from these bytes.
 pub fn small_page_is_printed()
     ensures { execute tiny1 (commands small_page_bytes).entries ≡ record {
       sheets = record { rows = 2; columns = 4; dots = black_dot 10 10 ∷ black_dot 30 10 ∷ [] } ∷ [];
@@ -54,7 +54,7 @@ pub fn black_page_with_margins()
     ensures bytes { page_bytes black_page with_margins by_floyd ≡ black_page_bytes }
 {}
 
-/// For three black rows of a column one nozzle takes three rasters.
+/// One nozzle takes three rasters for three black rows of one column.
 pub fn one_nozzle_prints_three_rasters()
     ensures len { length black_column_bytes ≡ 105 }
     ensures bytes { page_bytes black_column tiny1 by_floyd ≡ black_column_bytes }
@@ -68,7 +68,7 @@ pub fn tiny_prints_ninety_two_bytes()
     ensures rasters { ink_rasters Black (commands listing).entries ≡ 2 }
 {}
 
-/// The inks of a pass come in the order of their set: a black pixel uses black alone, a red one magenta and yellow.
+/// The inks of a pass come in the order of their set. A black pixel uses black alone, and a red one magenta and yellow.
 pub fn inks_go_in_the_order_of_their_set()
     ensures black_len { length black_pixel_bytes ≡ 63 }
     ensures black { page_bytes (pixel 0 0 0) (with_inks Cmyk) by_floyd ≡ black_pixel_bytes }
@@ -110,7 +110,7 @@ pub fn grey_128_has_its_amounts()
 
 /// The amounts of each ink for colours.
 pub fn colours_have_their_amounts()
-    // the shared darkness of 155 goes to black whole, or in part where black starts at 128
+    // the shared darkness of 155 goes to black whole, or in part if black starts at 128
     ensures whole { amounts_of (with_black_start 0) 100 100 100 ≡ 155 ∷ 0 ∷ 0 ∷ 0 ∷ [] }
     ensures part { amounts_of (with_black_start 128) 100 100 100 ≡ 54 ∷ 101 ∷ 101 ∷ 101 ∷ [] }
     // a darkness above 0 but below 128 stays in the colours
@@ -131,7 +131,7 @@ pub fn window_inside_margins()
         ≡ record { left = 1; top = 3; width = 7; height = 13 } }
 {}
 
-/// The pages that a printer takes: 22 inches long at most.
+/// The pages that a printer accepts: at most 22 inches long.
 pub fn pages_that_are_taken()
     ensures tiny1 { wanted_by tiny1 ≡ record {
       hdpi = 360;

@@ -25,9 +25,9 @@ pub fn wanted_are_distinct()
         → CanPrint p → (d : Dot) → count_by (is_at d) (wanted page p k) ≤ 1 }
 {}
 
-/// Strokes that print a halftone give it on one sheet: their bytes are whole commands, the printer takes them from
-/// any state without a dot on the sheet, the sheet has each dot of the halftone once and no other, and the next sheet
-/// has none yet. The rows of the rasters are plain or coded (`IsCoding`).
+/// Strokes that print a halftone put it on one sheet. Their bytes are whole commands, which the printer takes from any
+/// state without a dot on the sheet. The sheet has each dot of the halftone once and no other, and the next sheet has
+/// none yet. The rows of the rasters are plain or coded (`IsCoding`).
 pub fn strokes_are_printed()
     ensures { (p : Printer) (h : Halftone) (coding : Coding) (strokes : Strokes) (tall : ℕ)
         → CanPrint p → IsCoding coding → Sized p h tall → Fires p h strokes
@@ -52,8 +52,8 @@ pub fn pages_are_printed()
         → Prints p k pages (flat_map (λ page. page_bytes page p k) pages) }
 {}
 
-/// The same for pages that are printed by other strokes and other codes of rows: strokes that are chosen for each
-/// halftone, and that print the halftone of each page that the printer takes.
+/// The bytes of pages also print them by other strokes and another code of rows. The strokes are chosen for each
+/// halftone, and must print the halftone of each page that the printer accepts.
 pub fn stroked_pages_are_printed()
     ensures { (coding : Coding) (strokes : Halftone → Strokes) (p : Printer) (k : Screening) (pages : List Page)
         → CanPrint p → IsCoding coding → FirePages p k strokes → ArePages p pages

@@ -1,6 +1,6 @@
-//! Laws of pages on paper: the dots that a page asks for are distinct, strokes that fire them print them, and the
-//! bytes of pages print the pages. Each law is the contract of a function with an empty body. Worked pages compare
-//! the definitions with results worked by hand.
+//! Laws of pages on paper. The dots that a page asks for are distinct. Strokes that fire these dots print them. The
+//! bytes of pages print the pages. Each law is the contract of a function with an empty body. Worked pages compare the
+//! definitions with results worked by hand.
 #![tactic(auto)]
 
 mod examples;

@@ -10,8 +10,8 @@ ghost use Rattle.separation_definitions.specs.CanPrint.{CanPrint};
 ghost use Rattle.std.specs.List.{AllByRecursion};
 ghost use Rattle.std.specs.Prelude.{Bool, ℕ, ◌*◌};
 
-/// Where any two dots of each row that strokes fire pass a test of the nozzle and their columns, any two dots of each
-/// row of the rasters of their bytes do.
+/// A test takes a nozzle and two columns. If any two dots of each row that strokes fire pass the test, so do any two
+/// dots of each row of the rasters of their bytes.
 pub fn rasters_have_rows()
     ensures { (p : Printer) (h : Halftone) (coding : Coding) (strokes : Strokes) (tall : ℕ) (test : ℕ → ℕ → ℕ → Bool)
         → CanPrint p → IsCoding coding → Sized p h tall → Fires p h strokes

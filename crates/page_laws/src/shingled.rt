@@ -17,7 +17,7 @@ ghost use Rattle.shingle_plan.specs.Fits.{Shingles};
 ghost use Rattle.shingle_plan.specs.Shingles.{shingle_count};
 ghost use Rattle.std.specs.Prelude.{ℕ, ◌*◌, ◌≡◌, ◌≤◌};
 
-/// The shingled passes over a window are strokes that print its halftone, where the head can shingle.
+/// The shingled passes over a window are strokes that print its halftone, if the head can shingle.
 pub fn shingles_fire()
     ensures { (p : Printer) (h : Halftone) → CanPrint p → Shingles p.nozzles p.pitch → Fires p h (shingled p h) }
 {}

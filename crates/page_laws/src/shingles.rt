@@ -11,8 +11,8 @@ ghost use Rattle.page_laws.specs.Shingles.{fired_twice, fired_twice_bytes, made_
 ghost use Rattle.page_laws.specs.Shingles.{fired_twice_dots, two_black_rows};
 ghost use Rattle.std.specs.Prelude.{None, [], length, ◌∷◌, ◌≡◌};
 
-/// Rows that are fired twice, and rows that another nozzle makes up for a nozzle that fires nothing, print their
-/// window.
+/// The worked strokes print their window: those that fire rows twice, and those in which another nozzle makes up the
+/// rows of a nozzle that fires nothing.
 pub fn worked_strokes_fire()
     ensures shingled_rows { Fires three_nozzles two_black_rows fired_twice }
     ensures made_up_rows { Fires three_nozzles two_black_rows made_up }
@@ -33,8 +33,8 @@ pub fn shingled_rows_are_printed()
     } }
 {}
 
-/// The bytes of rows that another nozzle makes up for a nozzle that fires nothing, and the dots of their strokes. A
-/// stroke without a dot is left out.
+/// The bytes of rows that another nozzle makes up for a nozzle that fires nothing, and the dots of their strokes. The
+/// bytes leave out a stroke without a dot.
 pub fn rows_of_a_dead_nozzle_are_made_up()
     ensures len { length made_up_bytes ≡ 99 }
     ensures bytes { strokes_bytes page_coding three_nozzles 8 2 12 made_up ≡ made_up_bytes }

@@ -11,13 +11,14 @@ ghost use Rattle.separation_definitions.specs.CanPrint.{ArePages, CanPrint};
 ghost use Rattle.std.specs.List.{flat_map};
 ghost use Rattle.std.specs.Prelude.{List};
 
-/// The bytes of pages that are printed in a way of which the head is capable, one after another, print the pages.
+/// If the head is capable of a way, the bytes of pages printed in this way, one after another, print the pages.
 pub fn pages_are_printed_by_ways()
     ensures { (way : Way) (p : Printer) (s : Screening) (pages : List Page) → CanPrint p → CanGo way p → ArePages p pages
         → Prints p s pages (flat_map (λ page. page_bytes_by way page p s) pages) }
 {}
 
-/// The jobs of pages keep to their way: no more rasters of an ink than it takes, in rows that have what they may have.
+/// The jobs of pages keep to their way: they have no more rasters of an ink than the way takes, and only rows that the
+/// way allows.
 pub fn pages_keep_to_their_way()
     ensures { (way : Way) (p : Printer) (s : Screening) (pages : List Page) → CanPrint p → CanGo way p → ArePages p pages
         → KeepTo way p s pages }

@@ -7,8 +7,8 @@ const FACTOR: u32 = 1664525;
 
 const SUMMAND: u32 = 1013904223;
 
-/// A generator of bytes, the same for the same seed: a linear congruential generator of 32 bits, of whose state a draw
-/// gives the highest byte.
+/// A linear congruential generator of 32 bits. A draw returns the highest byte of its state. The same seed gives the
+/// same bytes.
 #[derive(Clone, Copy, Debug, PartialEq, Eq)]
 pub struct Draws {
     state: u32,

@@ -1,4 +1,4 @@
-//! What is made from seed 0, which the check computes.
+//! An example from seed 0, which the check computes.
 #![tactic(auto, unfolding(crate::specs::Made::draw, crate::specs::Made::drawn, crate::specs::Made::groups_of_pages, crate::specs::Made::line_repeats, crate::specs::Made::made_groups, crate::specs::Made::made_line, crate::specs::Made::made_pages, crate::specs::Made::made_stream, crate::specs::Made::next_state, crate::specs::Made::run_length, crate::specs::Made::state_after, pwg_lines::specs::Canonical::copies_at, pwg_lines::specs::Canonical::packets_from, pwg_lines::specs::Canonical::unequal_at))]
 
 ghost use Rattle.page_maker.specs.Made.{drawn, made_form, made_pages, made_stream};

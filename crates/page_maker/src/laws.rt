@@ -13,8 +13,8 @@ ghost use Rattle.pwg_definitions.specs.declared.pages.Wanted.{Wanted};
 ghost use Rattle.std.specs.List.{AllByRecursion};
 ghost use Rattle.std.specs.Prelude.{Err, Ok, [], if◌then◌else◌, length, ℕ, ◌<◌, ◌^◌, ◌≡◌, ◌≤◌};
 
-/// A made stream is read back: whoever wants its resolution and a page of its form reads exactly the pages that were
-/// made, to the end of the stream.
+/// A made stream is read back. A reader that wants its resolution and a page of its form reads exactly the pages that
+/// were made, to the end of the stream.
 pub fn made_stream_is_read()
     ensures read { (want : Wanted) (seed pages : ℕ) (form : PageForm) → pages ≤ most_pages → IsWanted want form
         → form.width < 2 ^ 32 → form.height < 2 ^ 32 → form.bytes_per_line < 2 ^ 32 → want.hdpi < 2 ^ 32
@@ -27,8 +27,8 @@ pub fn made_stream_is_read()
     ensures many { (seed pages : ℕ) (form : PageForm) → length (made_pages seed pages form) ≡ pages }
 {}
 
-/// Who wants a made stream's resolution refuses its header only for the size of its pages: their width first, and then
-/// their height.
+/// A reader that wants a made stream's resolution refuses its header only for the size of its pages: first for their
+/// width, then for their height.
 pub fn a_made_header_is_checked_by_its_size()
     ensures { (want : Wanted) (form : PageForm) → form.width < 2 ^ 32 → form.height < 2 ^ 32
         → form.bytes_per_line < 2 ^ 32 → want.hdpi < 2 ^ 32 → want.vdpi < 2 ^ 32
@@ -39,7 +39,7 @@ pub fn a_made_header_is_checked_by_its_size()
         else Ok form) }
 {}
 
-/// Where the header of a made stream is refused, the stream ends before its first page with the header's fault.
+/// If the header of a made stream is refused, the stream ends before its first page with the header's fault.
 pub fn a_made_header_is_refused()
     ensures { (want : Wanted) (seed pages : ℕ) (form : PageForm) (hdpi vdpi : ℕ) (why : HeaderFault)
         → 1 ≤ pages → check want (header_of (header_bytes form hdpi vdpi)) ≡ Err why

@@ -12,7 +12,7 @@ use std::alloc::Global;
 use std::marker::Model;
 use weave_base::{Failed, Source};
 
-/// A made stream as a source, which keeps one line and one piece of the stream: its sync word, a header or a group.
+/// A made stream as a source. It keeps one line and one piece of the stream: the sync word, a header or a group.
 /// Contracts see the bytes that are left. No read fails.
 #[derive(Drop)]
 pub struct PageMaker {
@@ -39,8 +39,8 @@ impl PageMaker {
     ghost use Rattle.pwg_definitions.specs.Header.{line_bytes, row_of};
     ghost use Rattle.std.specs.Prelude.{IfOk};
 
-    /// A source of the stream of pages of this form that are made from a seed, at a resolution in dots an inch. It
-    /// allocates the bytes of a line and of the longest piece; no other call takes memory.
+    /// A source of the stream that is made from a seed: pages of this form, at a resolution in dots an inch. It
+    /// allocates the bytes of a line and of the longest piece. No other call allocates memory.
     pub fn make(
         alloc: Global,
         seed: u32,

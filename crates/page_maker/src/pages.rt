@@ -10,7 +10,7 @@ use crate::pieces::Pieces;
 use base_definitions::Memory;
 use pwg_header::Kind;
 
-/// Appends the stream of pages of this size and kind that are made from a seed, at a resolution in dots an inch. On
+/// Appends the stream that is made from a seed: pages of this size and kind, at a resolution in dots an inch. On
 /// `Memory` the output is unchanged.
 pub fn make_pages(
     seed: u32,

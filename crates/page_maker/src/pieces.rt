@@ -29,7 +29,7 @@ impl Pieces {
     ghost use Rattle.page_maker.specs.Pieces.{left_of, most_bytes, most_left, pieces_form, to_come};
     ghost use Rattle.std.specs.Prelude.{IfOk, IsOk, List, OnOk, vec_capacity, vec_len, ℕ, ◌++◌, ◌+◌, ◌<◌, ◌==◌, ◌≤◌};
 
-    /// The pieces of pages of this form. It allocates the bytes of one line, and no other memory.
+    /// The pieces of pages of this form. It allocates the bytes of one line and no other memory.
     pub fn begin(
         alloc: Global,
         seed: u32,
@@ -54,15 +54,15 @@ impl Pieces {
         })
     }
 
-    /// Whether no piece is to come.
+    /// Whether no piece is left.
     pub fn is_done(&self) -> bool
         ensures { result ≡ (most_left self.now == 0) }
     {
         self.pages == 0 && self.lines == 0
     }
 
-    /// Appends the next piece. It succeeds where the output has room for the longest one. On `Memory` some bytes of it
-    /// may be appended, and no later piece is the right one.
+    /// Appends the next piece. It succeeds if the output has room for the longest piece. On `Memory` some bytes of the
+    /// piece may be appended, and later pieces are not promised.
     pub fn put_next(&mut self, out: &mut Vec<u8>) -> Result<(), Memory>
         requires { 0 < most_left self.old }
         ensures ok { OnOk result (out.new.items ++ left_of self.new ≡ out.old.items ++ left_of self.old) }

@@ -29,7 +29,7 @@ pub record WritesStrokes (p : Printer) (head : HeadStrokes) (t : DotTable) (len 
   pub memory : IsErrOf result stop.Memory → Keeps sink.before sink.now
   pub later : sink.faults_before ≤ sink.faults_now
 
--- A page of this form was written this way from planes of its dots, or part of it or nothing. The first five clauses
+-- A page of this form was written this way from planes of its dots, or part of it or nothing. The first six clauses
 -- are of each halftone that the planes show: its bytes were appended (`ok`), and so many (`sum`), or a proper prefix of
 -- them (`part`); they give one sheet with its dots (`prints`), and keep to the way (`keeps`). Whatever the answer, what
 -- was appended has no more rasters of an ink than the way takes (`few`).

@@ -1,4 +1,4 @@
-//! Strokes that the caller codes and sends alone, one after another.
+//! Strokes that the caller alone codes and sends, one after another.
 ghost use Rattle.page_writer.specs.Heads.{IsPage};
 ghost use Rattle.page_writer.specs.Pieces.{HasRoom, SendsStrokes, sent_bytes};
 ghost use Rattle.std.specs.Prelude.{IfOk, OnErr, vec_capacity, ◌≤◌};

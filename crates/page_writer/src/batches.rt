@@ -1,4 +1,4 @@
-//! Batches of pieces: one is coded by the workers while the caller sends the one before.
+//! Batches of pieces: the workers code one batch while the caller sends the batch before.
 ghost use Rattle.page_writer.specs.Heads.{HeadPage, IsPage};
 ghost use Rattle.page_writer.specs.Pieces.{AllRoomy, AreCoded, Each, HaveRoom, IsAssigned, IsFilled, IsRoomy, SendsBatch};
 ghost use Rattle.page_writer.specs.Pieces.{SendsStrokes, batch_bytes, bound_of, sent_bytes};
@@ -18,7 +18,7 @@ use weave_base::{Failed, Sink};
 use worker_team::run_beside;
 
 impl Run {
-    /// Where the strokes of a piece begin, and those of the piece before it end.
+    /// Where the strokes of a piece begin, and the strokes of the piece before it end.
     pub(crate) fn bound(&self, piece: usize) -> u32
         requires { piece ≤ 64 }
         ensures { result ≡ bound_of self.now piece }
@@ -27,7 +27,7 @@ impl Run {
         begin.min(u64::from(self.count)) as u32
     }
 
-    /// The strokes behind so many pieces.
+    /// The strokes behind the first `pieces` pieces.
     fn behind(&self, pieces: usize) -> Run
         requires { pieces ≤ 64 }
         ensures { result ≡ record { first = bound_of self.now pieces; each = self.now.each; count = self.now.count } }
@@ -70,7 +70,7 @@ fn put_piece<S: Strokes, K: Sink>(
     put_coded_strokes(page, first, end, strokes, last, step, sink)
 }
 
-/// Pieces of a page, and which strokes they have.
+/// Pieces of a page, and the strokes of these pieces.
 #[derive(Drop)]
 pub(crate) struct Batch<'a, S> {
     pub(crate) run: Run,

@@ -34,8 +34,8 @@ pub(crate) fn plane_row(planes: &Planes, place: u8, row: Option<u32>) -> &[u8]
     }
 }
 
-/// Whether a packed row has no dot: its greatest byte is 0. The loop never ends early, so that it runs over many
-/// bytes at once.
+/// Whether a packed row has no dot: its greatest byte is 0. The loop never ends early, so it can take many bytes at
+/// once.
 #[inline]
 pub fn is_blank(row: &[u8]) -> bool
     ensures { result ≡ list_all (λ byte. byte == 0) row.now }

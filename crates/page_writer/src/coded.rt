@@ -1,7 +1,7 @@
 //! Strokes that are coded and not yet sent.
 
-/// The code of a stroke, and how many rasters it has. It begins with room for the step down to the stroke, which
-/// depends on the strokes above it.
+/// The code of a stroke, and the number of its rasters. The code begins with room for the step down to the stroke; the
+/// step depends on the strokes above.
 #[derive(Drop)]
 pub(crate) struct Coded {
     pub(crate) code: Vec<u8>,
@@ -24,7 +24,7 @@ pub(crate) struct Sent {
     pub(crate) last: u32,
 }
 
-/// The strokes of a batch of pieces: `each` for a piece, from `first` on, but none from `count` on.
+/// The strokes of a batch of pieces, from `first` on: `each` strokes for a piece, but none from `count` on.
 #[derive(Clone, Copy)]
 pub(crate) struct Run {
     pub(crate) first: u32,

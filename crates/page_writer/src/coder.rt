@@ -4,7 +4,7 @@ use crate::coding::code_strokes;
 use crate::page_strokes::Strokes;
 use worker_team::Share;
 
-/// A piece, and the page that its strokes are of.
+/// A piece, and the page of its strokes.
 #[derive(Drop)]
 pub(crate) struct Coder<'a, S> {
     pub(crate) page: &'a S,

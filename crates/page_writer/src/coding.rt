@@ -1,4 +1,4 @@
-//! Strokes are coded into room of their own.
+//! Codes strokes, each into its own room.
 ghost use Rattle.base_definitions.specs.Limits.{most_row_bytes};
 ghost use Rattle.page_writer.specs.Heads.{IsPage};
 ghost use Rattle.page_writer.specs.Pieces.{AllRoomy, AreCoded, HasRoom, IsCoded};
@@ -22,7 +22,7 @@ fn append_room(out: &mut Vec<u8>)
     out.extend_from_slice(&room).unwrap();
 }
 
-/// Codes a stroke. The row is as long as the widest one.
+/// Codes a stroke. The room `row` is as long as the widest row.
 pub(crate) fn code_stroke<S: Strokes>(page: &S, stroke: u32, row: &mut [u8], coded: &mut Coded)
     requires page { IsPage (S.page page.now) }
     requires stroke { stroke < (S.page page.now).head.count }
@@ -37,7 +37,7 @@ pub(crate) fn code_stroke<S: Strokes>(page: &S, stroke: u32, row: &mut [u8], cod
     coded.rasters = page.append(stroke, row, &mut coded.code);
 }
 
-/// Codes the strokes from `first` to before `end`. It takes no memory.
+/// Codes the strokes from `first` to before `end`. Allocates no memory.
 pub(crate) fn code_strokes<S: Strokes>(page: &S, first: u32, end: u32, strokes: &mut [Coded])
     requires page { IsPage (S.page page.now) }
     requires low { end ≤ (S.page page.now).head.count }

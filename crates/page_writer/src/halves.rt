@@ -9,7 +9,7 @@ const EVEN: u8 = 0b1010_1010;
 // The bits of a byte whose places are odd.
 const ODD: u8 = 0b0101_0101;
 
-/// Puts a packed row into the room without its odd columns, or without its even ones.
+/// Puts a packed row into the room without its odd columns if `even` is set, else without its even columns.
 #[inline]
 pub fn put_every_other(row: &[u8], even: bool, room: &mut [u8])
     requires { length room.old ≡ length row.now }

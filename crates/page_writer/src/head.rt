@@ -1,14 +1,14 @@
-//! Heads, by the strokes that they take over a window.
+//! Heads, described by their strokes over a window.
 ghost use Rattle.base_definitions.specs.Packed.{packed};
 ghost use Rattle.page_writer.specs.Heads.{HeadStrokes, IsOver};
 ghost use Rattle.std.specs.Prelude.{MatchOption, length, ◌+◌, ◌/◌, ◌<◌, ◌≡◌};
 
 use dot_planes::Planes;
 
-/// A head at work over a window. A stroke is one sweep of it across the page; strokes go down the page, and count
-/// from 0.
+/// A head at work over a window. A stroke is one sweep of the head across the page. Strokes go down the page, and are
+/// numbered from 0.
 pub trait Head {
-    /// The strokes that the methods tell.
+    /// The strokes that the methods describe.
     ghost strokes: { Self → HeadStrokes };
 
     /// How many rows the head's first position is above the window.
@@ -24,8 +24,8 @@ pub trait Head {
         requires { stroke < (strokes self.now).count }
         ensures { result ≡ (strokes self.now).start stroke };
 
-    /// The packed row of an ink, by its place in the set, that a nozzle fires in a stroke. `None` says that the row
-    /// was put into the room, which is as long as a row of the planes.
+    /// The packed row of an ink, by its place in the set, that a nozzle fires in a stroke. `None` if the row was put
+    /// into the room instead. The room is as long as a row of the planes.
     fn fired_row<'a>(
         &self,
         planes: &'a Planes,

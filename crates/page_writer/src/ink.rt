@@ -12,8 +12,8 @@ use dot_planes::Planes;
 use escp2_writer::{Command, RasterHead, append_header};
 use weave_base::Ink;
 
-/// Appends what an ink fires in a stroke: its colour, the return to the left margin, and a raster. Appends nothing
-/// where the ink has no dot to fire. The answer is the number of rasters.
+/// Appends what an ink fires in a stroke: its colour, the return to the left margin, and a raster. Appends nothing if
+/// the ink has no dot to fire. Returns the number of rasters.
 pub fn append_ink<H: Head>(
     head: &H,
     planes: &Planes,

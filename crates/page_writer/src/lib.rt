@@ -1,27 +1,27 @@
 //! Writes the job of a page from its dots: stroke by stroke of a head over the page's window, ink by ink, with coded
 //! rows.
 //!
-//! A `Head` tells its strokes: where each begins, and which row each nozzle fires. `write_strokes` takes any head that
-//! suits the printer and the planes: on success exactly the bytes of its strokes are appended to the sink (`ok`), and
-//! the answer says how many bytes and rasters they are (`sum`). On `Write` a proper prefix of them was appended
+//! A `Head` describes its strokes: where each begins, and which row each nozzle fires. `write_strokes` takes any head
+//! that suits the printer and the planes. On success exactly the bytes of the strokes are appended to the sink (`ok`),
+//! and the result has the number of bytes and rasters (`sum`). On `Write` a proper prefix of the bytes was appended
 //! (`part`), and the sink's count of faults rose (`write`). On `Memory` nothing was written (`memory`): all memory is
 //! taken before the first byte.
 //!
-//! With several workers the strokes are cut into pieces of consecutive strokes. A batch of pieces is coded by all
-//! workers while the caller sends the batch above it. The step down to a stroke depends on which strokes above it have
-//! a dot, so a stroke is coded behind seven bytes of room, into which the caller puts the step. The bytes are the same
-//! for any number of workers; that several work at once is not claimed.
+//! With several workers the strokes are cut into pieces of consecutive strokes. All workers code a batch of pieces
+//! while the caller sends the batch above it. The step down to a stroke depends on which strokes above it have a dot.
+//! So a stroke is coded behind seven bytes of room, into which the caller puts the step. The bytes are the same for any
+//! number of workers. No clause claims that several workers work at once.
 //!
-//! `write_by_way` writes a page by the way of its head, a `Way` of which the head is capable: the interleaved passes of
-//! `weave_definitions::Plan`, the shingled passes of `shingle_plan::ShinglePlan`, or the strokes of
-//! `dead_nozzles::StrokePlan` around dead nozzles. It takes a profile that passes its checks, a form that the printer
-//! takes, and planes of the window's size. The same holds of the bytes of each halftone whose dots the planes have; and
-//! they give one sheet with exactly the halftone's dots (`prints`), with no more rasters of an ink than the way takes,
-//! in rows that have what they may have (`keeps`). `write_page`, `write_shingled` and `write_healed` are the same, each
+//! `write_by_way` writes a page by a `Way` that the head can go: the interleaved passes of `weave_definitions::Plan`,
+//! the shingled passes of `shingle_plan::ShinglePlan`, or the strokes of `dead_nozzles::StrokePlan` around dead
+//! nozzles. It takes a profile that passes its checks, a form that the printer takes, and planes of the window's size.
+//! The same clauses hold for the bytes of each halftone whose dots the planes have. These bytes also give one sheet
+//! with exactly the halftone's dots (`prints`). They have no more rasters of an ink than the way takes, and each row
+//! fires only what the way lets it fire (`keeps`). `write_page`, `write_shingled` and `write_healed` do the same, each
 //! for its way.
 //!
-//! `short` bounds the bytes: at most 49 + strokes * (7 + inks * (12 + 2 * nozzles * bytes of a row)). That a stroke is
-//! one call of `put_all`, and so are the commands before the strokes and those after them, is left to tests.
+//! `short` bounds the bytes: at most 49 + strokes * (7 + inks * (12 + 2 * nozzles * bytes of a row)). Only tests cover
+//! that each stroke is one call of `put_all`, and so are the commands before the strokes and the commands after them.
 #![tactic(auto)]
 
 mod alone;

@@ -16,12 +16,12 @@ const SHEET_UNITS: u16 = 720;
 // How many units of a raster's header an inch has.
 const HEADER_UNITS: u16 = 3600;
 
-/// Places on a sheet, from its top, in units of 5/3600 inch.
+/// Positions on a sheet, measured from its top in units of 5/3600 inch.
 #[derive(Clone, Copy)]
 pub struct SheetPlaces {
     /// The length of the sheet.
     pub length: u16,
-    /// The first row that the first nozzle is on.
+    /// The row on which the first nozzle begins.
     pub top: u16,
     /// The end of the last row that is printed.
     pub bottom: u16,
@@ -50,7 +50,7 @@ pub fn raster_header(profile: &Profile, width: u16) -> RasterHead
     }
 }
 
-/// The sheet of a page, over which the head begins `above` rows above the window.
+/// The positions on the sheet of a page. The head begins `above` rows above the window.
 pub fn sheet_of(profile: &Profile, form: PageForm, above: u32) -> SheetPlaces
     requires can { CanPrint profile.now }
     requires wanted { IsWanted (wanted_by profile.now) form }

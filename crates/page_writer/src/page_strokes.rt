@@ -16,19 +16,19 @@ use printer_profile::Profile;
 
 /// The strokes of a page.
 pub(crate) trait Strokes {
-    /// The head, the printer and the planes that they are of.
+    /// The head, the printer and the planes of the strokes.
     ghost page: { Self → HeadPage };
 
-    /// How many there are.
+    /// How many strokes there are.
     fn count(&self) -> u32
         ensures { result ≡ (page self.now).head.count };
 
-    /// The row where one begins.
+    /// The row where a stroke begins.
     fn start(&self, stroke: u32) -> u32
         requires { stroke < (page self.now).head.count }
         ensures { result ≡ (page self.now).head.start stroke };
 
-    /// Appends what the inks fire in a stroke, and gives the number of their rasters. The room is as long as the widest
+    /// Appends what the inks fire in a stroke, and returns the number of rasters. The room is as long as the widest
     /// row.
     fn append(&self, stroke: u32, room: &mut [u8], out: &mut Vec<u8>) -> u32
         requires page { IsPage (page self.now) }
@@ -45,7 +45,7 @@ pub(crate) trait Strokes {
         ensures capacity { vec_capacity out.old ≤ vec_capacity out.new }
         ensures long { length room.new ≡ length room.old };
 
-    /// Appends the step down to a row from the row `last`; nothing where the head is there.
+    /// Appends the step down to a row from the row `last`, or nothing if the head is already there.
     fn append_step(&self, row: u32, last: u32, out: &mut Vec<u8>)
         requires page { IsPage (page self.now) }
         requires low { row * row_units_of (page self.now).p ≤ most_rows }
@@ -56,7 +56,7 @@ pub(crate) trait Strokes {
         ensures capacity { vec_capacity out.old ≤ vec_capacity out.new };
 }
 
-/// The strokes of a head of a printer over planes.
+/// The strokes of a printer's head over planes.
 #[derive(Drop)]
 pub(crate) struct PageStrokes<'a, H> {
     pub(crate) profile: &'a Profile,

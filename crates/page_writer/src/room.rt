@@ -19,8 +19,8 @@ const LEAST_STROKES: u32 = 4;
 // In how many batches the strokes of a page are coded, where there is room.
 const BATCHES: u64 = 4;
 
-/// How so many strokes are cut for these workers, where a stroke takes so many bytes at most. `None` says that one
-/// worker does as well: there are few strokes, or no room for two of them at once.
+/// How `count` strokes of at most `most` bytes each are cut for these workers. `None` if one worker does as well: there
+/// are few strokes, or no room for two strokes at once.
 pub(crate) fn cut(workers: u8, count: u32, most: u64) -> Option<BatchCut>
     requires most { 1 ≤ most }
     requires workers { workers ≤ 64 }
@@ -50,7 +50,7 @@ pub(crate) struct Batches<'a, S> {
 }
 
 impl Coded {
-    /// Room for the code of a stroke of so many bytes.
+    /// Room for the code of a stroke of at most `most` bytes.
     pub(crate) fn make(alloc: Global, most: usize) -> Result<Coded, Memory>
         ensures { IfOk result (λ coded. most ≤ vec_capacity coded.code) }
     {
@@ -96,7 +96,7 @@ fn make_coders<'a, S: Strokes>(
 }
 
 impl<'a, S: Strokes> Batches<'a, S> {
-    /// Room for two batches that are cut in this way, of strokes of so many bytes at most.
+    /// Room for two batches that are cut in this way, of strokes of at most `most` bytes each.
     pub(crate) fn make(
         alloc: Global,
         page: &'a S,

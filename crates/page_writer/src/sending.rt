@@ -1,4 +1,4 @@
-//! Coded strokes are sent, each in one write.
+//! Sends coded strokes, each in one write.
 ghost use Rattle.page_writer.specs.Heads.{IsPage};
 ghost use Rattle.page_writer.specs.Pieces.{AllRoomy, AreCoded, HasRoom, IsCoded, SendsStrokes, sent_both, sent_bytes};
 ghost use Rattle.std.specs.Prelude.{IfOk, OnErr, drop, length, vec_capacity, ◌++◌};
@@ -12,7 +12,7 @@ use crate::page_strokes::Strokes;
 use weave_base::{Failed, Sink, put_all};
 
 impl Sent {
-    /// Nothing is sent, and the head is on this row.
+    /// Nothing was sent, and the head is on row `last`.
     pub(crate) fn nothing(last: u32) -> Sent
         ensures { result ≡ record { bytes = 0; rasters = 0; last = last } }
     {
@@ -23,7 +23,7 @@ impl Sent {
         }
     }
 
-    /// This is sent, and then more.
+    /// What was sent so far, and then more.
     pub(crate) fn and_then(self, more: Sent) -> Sent
         requires bytes { self.bytes + more.bytes < 2 ^ 64 }
         requires rasters { self.rasters + more.rasters < 2 ^ 32 }
@@ -50,7 +50,7 @@ fn put_step(step: &[u8], code: &mut [u8]) -> usize
     begin
 }
 
-/// Sends a stroke, or nothing where no ink has a dot in it. The head is on row `last`.
+/// Sends a stroke, or nothing if no ink has a dot in the stroke. The head is on row `last`.
 pub(crate) fn put_coded<S: Strokes, K: Sink>(
     page: &S,
     stroke: u32,
@@ -88,8 +88,8 @@ pub(crate) fn put_coded<S: Strokes, K: Sink>(
     })
 }
 
-/// Sends the strokes from `first` to before `end`, which are coded. The head is on row `last`. The vector has room for
-/// a step.
+/// Sends the coded strokes from `first` to before `end`. The head is on row `last`. The vector `step` has room for a
+/// step.
 pub(crate) fn put_coded_strokes<S: Strokes, K: Sink>(
     page: &S,
     first: u32,

@@ -25,7 +25,7 @@ pub(crate) fn append_step(units: u16, out: &mut Vec<u8>)
     }
 }
 
-/// Appends what the inks fire in a stroke, and gives the number of their rasters.
+/// Appends what the inks fire in a stroke, and returns the number of rasters.
 pub(crate) fn append_inks<H: Head>(
     profile: &Profile,
     planes: &Planes,

@@ -136,11 +136,11 @@ fn batches_of<'a, H: Head>(
     }
 }
 
-/// Writes the job of a page from the strokes of a head over planes of its dots, and gives the number of its bytes and
-/// rasters: graphics mode and the sheet, then the strokes that have a dot, and the end of the sheet (ESC/P Reference
-/// Manual, graphics commands). Rows of rasters are coded.
+/// Writes the job of a page from the strokes of a head over planes of its dots, and returns the number of bytes and
+/// rasters. The job is graphics mode and the sheet, then the strokes that have a dot, and the end of the sheet (ESC/P
+/// Reference Manual, graphics commands). Rows of rasters are coded.
 ///
-/// It takes its memory before the first byte: the room for one stroke, and for several workers that of two batches. On
+/// All memory is taken before the first byte: room for one stroke, and for several workers room for two batches. On
 /// `Write` the sink took a proper prefix of the bytes.
 pub fn write_strokes<R: Threads + Sync, G, H: Head + Sync, K: Sink>(
     team: &Team<'_, R, G>,

@@ -19,9 +19,9 @@ const INK_HEAD: u64 = 12;
 /// The size of what was written of a page.
 #[derive(Clone, Copy, Debug, PartialEq, Eq)]
 pub struct PageSum {
-    /// Bytes of its job.
+    /// Bytes of the page's job.
     pub bytes: u64,
-    /// Rasters among its commands: at most one for each ink in each pass.
+    /// Rasters of the page's job: at most one for each ink in each pass.
     pub rasters: u32,
 }
 
@@ -35,7 +35,7 @@ fn most_of_ink(nozzles: u8, width: u32) -> u64
     INK_HEAD + 2 * u64::from(nozzles) * ((u64::from(width) + 7) / 8)
 }
 
-/// The most bytes of a pass over this many columns: a step down, and each of its inks.
+/// The most bytes of a pass over this many columns: a step down, and each ink.
 pub(crate) fn most_of_pass(profile: &Profile, width: u32) -> u64
     requires { width ≤ most_columns }
     ensures is { result ≡ most_of_pass_of profile.now width }
@@ -44,8 +44,8 @@ pub(crate) fn most_of_pass(profile: &Profile, width: u32) -> u64
     STEP as u64 + u64::from(profile.inks.count()) * most_of_ink(profile.nozzles, width)
 }
 
-/// The most bytes that `write_page` writes of a page with this window: 49 and, for each pass of the head, 7 and, for
-/// each ink, 12 and twice the bytes of a row for each nozzle.
+/// The most bytes that `write_page` writes for a page with this window: 49, and for each pass of the head 7, and for
+/// each ink of a pass 12 plus twice the bytes of a row for each nozzle.
 pub fn most_bytes(profile: &Profile, window: Window) -> u64
     requires can { CanPrint profile.now }
     requires width { window.width ≤ most_columns }

@@ -24,12 +24,12 @@ use weave_base::Sink;
 use weave_definitions::Plan;
 use worker_team::Team;
 
-/// Writes the job of a page whose dots are in planes, by the way of the head, and gives the number of its bytes and
-/// rasters: graphics mode and the sheet, then the strokes over the page's window that have a dot, and the end of the
-/// sheet (ESC/P Reference Manual, graphics commands). Rows of rasters are coded.
+/// Writes the job of a page whose dots are in planes, by the way of the head, and returns the number of bytes and
+/// rasters. The job is graphics mode and the sheet, then the strokes over the page's window that have a dot, and the
+/// end of the sheet (ESC/P Reference Manual, graphics commands). Rows of rasters are coded.
 ///
-/// It takes its memory before the first byte: that of `write_strokes`, and around dead nozzles the plan of the strokes.
-/// On `Write` the sink took a proper prefix of the bytes.
+/// All memory is taken before the first byte: the memory of `write_strokes`, and around dead nozzles the plan of the
+/// strokes. On `Write` the sink took a proper prefix of the bytes.
 pub fn write_by_way<R: Threads + Sync, G, K: Sink>(
     team: &Team<'_, R, G>,
     alloc: Global,
@@ -91,8 +91,8 @@ pub fn write_page<R: Threads + Sync, G, K: Sink>(
     write_by_way(team, alloc, profile, &Way::Woven, form, planes, sink)
 }
 
-/// Writes the job of a page in shingled passes, as `write_by_way` does: each row in two passes of the head, its even
-/// columns in one, and its odd columns in the other. `shingle_fits` tests the head.
+/// Writes the job of a page in shingled passes, as `write_by_way` does. Each row is printed in two passes of the head:
+/// one has its even columns, the other its odd columns. `shingle_fits` tests whether a head can shingle.
 pub fn write_shingled<R: Threads + Sync, G, K: Sink>(
     team: &Team<'_, R, G>,
     alloc: Global,
@@ -113,7 +113,7 @@ pub fn write_shingled<R: Threads + Sync, G, K: Sink>(
 }
 
 /// Writes the job of a page around the nozzles of `dead`, as `write_by_way` does: the passes of the head without these
-/// nozzles, and strokes in which live nozzles make up for them. The numbers of `dead` are in rising order, and
+/// nozzles, and make-up strokes, in which live nozzles fire the rows of dead ones. The numbers in `dead` rise, and
 /// `check_dead` tests them.
 pub fn write_healed<R: Threads + Sync, G, K: Sink>(
     team: &Team<'_, R, G>,

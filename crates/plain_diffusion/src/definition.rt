@@ -63,8 +63,8 @@ fn is_in_range(above: Above) -> bool
 }
 
 impl Definition {
-    /// An ink of a window of this size. `None` where there is no memory for it, and for a window of more than 65,535
-    /// columns or rows, or below an error that is not from -2040 to 2039.
+    /// Diffuses an ink of a window of this size. Returns `None` if memory runs out, if the window has more than 65,535
+    /// columns or rows, or if an error above it is not from -2040 to 2039.
     pub fn make(
         alloc: Global,
         kernel: Kernel,

@@ -20,7 +20,7 @@ pub enum Amounts {
 pub enum Above {
     /// One error at each place of the bottom edges of tiles above it, which begin 60 and 62 pixels left of it; else 0.
     Edges(i16),
-    /// By a hash of the place, left and right of the window too.
+    /// By a hash of the place, also left and right of the window.
     Mixed,
 }
 

@@ -144,7 +144,7 @@ fn push_dot(errors: &mut Vec<i16>, dots: &mut Vec<bool>, dot: Dot) -> Option<()>
     Some(())
 }
 
-/// Diffuses row y. `None` where there is no memory.
+/// Diffuses row y. Returns `None` if memory runs out.
 pub(crate) fn diffuse_row(
     window: &InkWindow,
     y: u32,

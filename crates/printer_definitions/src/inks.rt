@@ -1,4 +1,4 @@
-//! The inks of a printer, and the sets of them that it may carry.
+//! Inks, and the sets of inks that a printer may carry.
 ghost use Rattle.std.specs.Prelude.{Some, ◌<◌, ◌≡◌, length, slice_get};
 
 /// One ink.

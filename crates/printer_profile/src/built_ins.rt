@@ -58,7 +58,7 @@ pub(crate) const P720CMYK: Profile = Profile {
     ..UNSAID
 };
 
-/// The built-in profile of a name.
+/// The built-in profile with this name.
 pub fn built_in(name: &str) -> Option<Profile>
     ensures { result ≡ built_in_of name.now }
 {

@@ -29,7 +29,7 @@ pub fn refused_texts()
     ensures no_equals { profile_text (codes "escp2-profile 2\nx\nnozzles=256\n") ≡ Err (fault_at 2 NoEquals) }
 {}
 
-/// Of two faults of a profile the one that is checked first is answered.
+/// If a profile has two faults, the one that is checked first is returned.
 pub fn fault_order()
     ensures none { check tiny ≡ Ok tt }
     ensures resolution { check (record tiny { hdpi = 300; nozzles = 0 }) ≡ Err fault.Resolution }

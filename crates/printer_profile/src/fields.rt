@@ -1,4 +1,4 @@
-//! What a profile says of a printer, and what follows for its pages.
+//! What a profile states about a printer, and what follows for its pages.
 ghost use Rattle.separation_definitions.specs.Windows.{wanted_by, window_of};
 ghost use Rattle.std.specs.Prelude.{◌≡◌, ◌<◌, [], IsOk, slice_index_or, true};
 ghost use Rattle.pwg_definitions.specs.Header.{IsWanted};
@@ -10,7 +10,7 @@ use pwg_definitions::{MOST_COLUMNS, MOST_ROWS, PageForm, Wanted};
 use separation_definitions::Window;
 use std::marker::Model;
 
-/// A printer as a profile describes it. The fields are independent: `check` says whether they make sense together.
+/// A printer as a profile describes it. The fields are independent: `check` tests whether they make sense together.
 #[derive(Clone, Copy, Debug, PartialEq, Eq)]
 pub struct Profile {
     /// Dots an inch across the page.
@@ -29,7 +29,7 @@ pub struct Profile {
     /// The tone curves of black, cyan, magenta and yellow: 17 points each, the tones of the amounts 0, 16, .. 256. No
     /// point is above 256.
     pub curves: [[u16; 17]; 4],
-    /// The left margin in pixels of the page; so are the other three.
+    /// The left margin, in pixels of the page, like the other three margins.
     pub left: u16,
     pub right: u16,
     pub top: u16,
@@ -54,7 +54,7 @@ pub const STRAIGHT_CURVE: [u16; 17] = [
     0, 16, 32, 48, 64, 80, 96, 112, 128, 144, 160, 176, 192, 208, 224, 240, 256,
 ];
 
-/// What a profile has where its text says nothing.
+/// The values of the keys that a text does not give.
 pub(crate) const UNSAID: Profile = Profile {
     hdpi: 0,
     vdpi: 0,
@@ -83,8 +83,8 @@ fn tone_on(curve: &[u16; 17], a: u8) -> u8
 }
 
 impl Profile {
-    /// The tone of an amount of an ink, which counts from 0 in the order black, cyan, magenta and yellow: on the
-    /// straight line between two points of the ink's curve, rounded down.
+    /// The tone of an amount of an ink: a point on the straight line between two points of the ink's curve, rounded
+    /// down. Inks count from 0 in the order black, cyan, magenta and yellow.
     pub fn tone(&self, ink: u8, a: u8) -> u8
         requires ink { ink < 4 }
         requires checked { IsOk (check self.now) }
@@ -93,8 +93,8 @@ impl Profile {
         tone_on(&self.curves[usize::from(ink)], a)
     }
 
-    /// The pages that the printer takes: its resolution, and sizes in pixels that leave at least one inside the
-    /// margins.
+    /// The pages that the printer accepts: of its resolution, and with sizes in pixels that leave at least one pixel
+    /// inside the margins.
     pub fn wanted(&self) -> Wanted
         ensures { result ≡ wanted_by self.now }
     {

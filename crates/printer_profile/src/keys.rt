@@ -1,5 +1,5 @@
-//! The keys of a profile's text, in one table: place, name, and whether a text must have them; and the versions of the
-//! text.
+//! The table of the keys of a profile's text: place, name, and whether a text must have the key; and the versions of
+//! the text.
 ghost use Rattle.printer_profile.specs.Keys.{name_at};
 ghost use Rattle.std.specs.Prelude.{false, length, true, ◌≡◌, ◌≤◌};
 
@@ -26,7 +26,7 @@ pub(crate) enum Key {
     CurveYellow,
 }
 
-/// A version of the text. Version 2 has the keys of version 1 and those of the curves.
+/// A version of the text. Version 2 has the keys of version 1 and the keys of the curves.
 #[derive(Clone, Copy)]
 pub(crate) enum Version {
     One,
@@ -189,7 +189,7 @@ impl Version {
         }
     }
 
-    /// The key of a name.
+    /// The key with this name.
     pub(crate) fn key_named(self, name: &[u8]) -> Option<Key>
         ensures { result ≡ key_named self name.now }
     {
@@ -200,7 +200,7 @@ impl Version {
     }
 }
 
-/// The name of the key at a place of the table, counted from 1; nothing at any other place.
+/// The name of the key at a place of the table, counted from 1. Empty at any other place.
 pub fn key_name(place: u8) -> &'static str
     ensures name { result.now ≡ name_at place }
     ensures len { length result.now ≤ 11 }

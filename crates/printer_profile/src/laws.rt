@@ -1,4 +1,4 @@
-//! What holds of all profiles.
+//! Laws of all profiles.
 ghost use Rattle.separation_definitions.specs.CanPrint.{CanPrint};
 ghost use Rattle.printer_profile.specs.Text.{VersionsAgree, profile_text, profile_text_of};
 ghost use Rattle.printer_profile.specs.Validity.{check};
@@ -31,20 +31,19 @@ pub fn printed_is_read(p: Profile)
     has_17_points(&p.curves[3]);
 }
 
-/// Two texts whose first lines are `escp2-profile 1` and `escp2-profile 2` and whose other lines are equal give the
-/// same answer; or the text of version 1 has an unknown key in a line with the key of a curve.
+/// Take two texts whose first lines are `escp2-profile 1` and `escp2-profile 2`, and whose other lines are equal. Both
+/// are read with the same result, or the text of version 1 has an unknown key in a line with the key of a curve.
 #[tactic(auto, using(crate::proofs::TwoHeads::versions_agree))]
 pub fn versions_agree()
     ensures { (a b : List ℕ) → VersionsAgree a b }
 {}
 
-/// A printer that passes its checks can print: it meets what the laws of the page ask of a printer.
+/// A printer that passes its checks can print: it meets the conditions of the laws of the page.
 pub fn checked_can_print(p: Profile)
     ensures { IsOk (check p) → CanPrint p }
 {}
 
-/// The nozzles and the pitch of a printer that passes its checks have no common divisor, so that its passes fire each
-/// row once.
+/// If a printer passes its checks, its number of nozzles and its pitch are coprime, so its passes fire each row once.
 pub fn checked_is_coprime(p: Profile)
     ensures { IsOk (check p) → IsGcd p.nozzles p.pitch 1 }
 {}

@@ -89,7 +89,8 @@ fn push_text(p: &Profile, out: &mut ArrayString<ROOM>)
 }
 
 impl Profile {
-    /// Appends the profile's text of version 2, with every key: at most 2068 bytes. `read` gives the profile back.
+    /// Appends the profile's text of version 2, with every key: at most 2068 bytes. `read` returns the profile again
+    /// from this text.
     pub fn print(&self, out: &mut Vec<u8>) -> Result<(), Memory>
         ensures ok { OnOk result (out.new.items ≡ out.old.items ++ profile_text_of self.now) }
         ensures len { length (profile_text_of self.now) ≤ ROOM }

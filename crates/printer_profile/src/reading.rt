@@ -12,7 +12,7 @@ use crate::lines::first_line;
 use key_values::cut_at;
 use thiserror::Error;
 
-/// Why a text is not a profile. Where a line has several causes, the first in the order of these variants counts.
+/// Why a text is not a profile. If a line has several causes, the first in the order of these variants counts.
 #[derive(Clone, Copy, Debug, PartialEq, Eq, Error)]
 pub enum TextCause {
     #[error("neither `escp2-profile 1` nor `escp2-profile 2`")]
@@ -36,7 +36,7 @@ pub enum TextCause {
 #[derive(Clone, Copy, Debug, PartialEq, Eq, Error)]
 #[error("line {line}: {cause}")]
 pub struct TextFault {
-    /// The line, counted from 1; 0 where the fault is not in a line. Lines from 4,294,967,295 on have that number.
+    /// The line, counted from 1, or 0 if the fault is not in a line. Lines from 4,294,967,295 on have that number.
     pub line: u32,
     pub cause: TextCause,
 }
@@ -153,8 +153,8 @@ fn read_lines(version: Version, text: &[u8]) -> Result<Given, TextFault>
     Ok(given)
 }
 
-/// Reads a profile's text, of either version: its first line, and lines `key=value`. The answer is the profile, or the
-/// first refused line; where all lines are good, the first required key that is absent.
+/// Reads a profile's text, of either version: its first line, and lines `key=value`. Returns the profile, or the first
+/// refused line. If all lines are good, the fault is the first required key that is absent.
 pub fn read(text: &[u8]) -> Result<Profile, TextFault>
     ensures { result ≡ profile_text text.now }
 {

@@ -47,7 +47,7 @@ impl Profile {
         Some(profile)
     }
 
-    /// Sets the key of a name, as a line `key=value` of a profile's text would.
+    /// Sets the key with this name, as a line `key=value` of a profile's text would.
     pub fn set(&mut self, key: &str, value: &str) -> Result<(), SetFault>
         ensures ok { OnOk result (set_key key.now value.now self.old ≡ Ok self.new) }
         ensures fault { IfErr result (λ fault. set_key key.now value.now self.old ≡ Err fault) }

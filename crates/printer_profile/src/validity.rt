@@ -6,7 +6,7 @@ use crate::fields::Profile;
 use base_definitions::greatest_common_divisor;
 use thiserror::Error;
 
-/// Why a profile makes no sense, in the order in which the checks are made.
+/// Why a profile makes no sense, in the order of the checks.
 #[derive(Clone, Copy, Debug, PartialEq, Eq, Error)]
 pub enum ProfileFault {
     #[error("a resolution is neither 360 nor 720 dots an inch")]
@@ -15,7 +15,7 @@ pub enum ProfileFault {
     Nozzles,
     #[error("the nozzles are no rows apart")]
     Pitch,
-    /// Passes of equal steps fire every row once only where nozzles and pitch have no common divisor.
+    /// Passes of equal steps fire every row once only if the number of nozzles and the pitch are coprime.
     #[error("the nozzles and the pitch have the common divisor {gcd}")]
     NotCoprime { gcd: u8 },
     /// The distance between two nozzles, in 1/3600 inch, is one byte of the raster command.
@@ -79,7 +79,7 @@ fn check_curves(curves: &[[u16; 17]; 4]) -> Result<(), ProfileFault>
 impl Profile {
     ghost use Rattle.printer_profile.specs.Validity.{check as check_of};
 
-    /// Whether the fields make sense together; `Err` is the first fault in the order of `ProfileFault`.
+    /// Checks whether the fields make sense together. `Err` has the first fault in the order of `ProfileFault`.
     pub fn check(&self) -> Result<(), ProfileFault>
         ensures { result ≡ check_of self.now }
     {

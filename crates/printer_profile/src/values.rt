@@ -49,7 +49,7 @@ pub fn curve_of(text: &[u8]) -> Option<[u16; 17]>
     Some(curve)
 }
 
-/// The set of inks of a name.
+/// The set of inks with this name.
 pub fn ink_set_named(text: &[u8]) -> Option<InkSet>
     ensures { result ≡ ink_set_of text.now }
 {

@@ -9,7 +9,7 @@ const _: () = prove!(MOST_COLUMNS == 8191 && MOST_ROWS == 22 * 720);
 /// A cause of an error line, and what it means.
 #[derive(Clone, Copy, Debug)]
 pub struct CauseText {
-    /// The name of the cause, without the numbers that may stand behind it.
+    /// The name of the cause, without the numbers that may follow it.
     pub name: &'static str,
     /// Each error line that has the cause, and indented below it what the line means and what to do.
     pub text: &'static str,

@@ -3,7 +3,7 @@ use crate::texts::{ProgramTexts, text_of};
 use std::{env, io};
 use weave_base::{Failed, Memory, StdSink, Words, put_all};
 
-/// Why there are no words.
+/// Why the words could not be read.
 #[derive(Clone, Copy, Debug, PartialEq, Eq)]
 pub enum NoWords {
     /// The system does not give the command line as texts: a word is not UTF-8.
@@ -51,7 +51,7 @@ pub fn read_words(rt: &HostRuntime) -> Result<Words, NoWords> {
     Ok(words)
 }
 
-/// What the command line asks for: a text where `text_of` gives one, else a run.
+/// What the command line asks for: a text if `text_of` returns one, else a run.
 pub fn read_command_line(rt: &HostRuntime, texts: ProgramTexts) -> Result<Asked, NoWords> {
     let words = read_words(rt)?;
     match text_of(&words, texts) {

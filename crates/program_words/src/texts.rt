@@ -10,11 +10,11 @@ use weave_base::Words;
 /// The texts that a program has about itself.
 #[derive(Clone, Copy, Debug)]
 pub struct ProgramTexts {
-    /// What it does, its words, and its exit statuses.
+    /// What the program does, its words, and its exit statuses.
     pub help: &'static str,
-    /// Its name and version.
+    /// The program's name and version.
     pub version: &'static str,
-    /// What the causes of its error lines mean.
+    /// What the causes of the program's error lines mean.
     pub causes: &'static [CauseText],
 }
 
@@ -47,7 +47,7 @@ fn help_on(words: &Words, texts: ProgramTexts) -> &'static str
     }
 }
 
-/// The text that the first word asks for: `--help`, `-h` or `help`, or `--version`. A cause behind a word for help asks
+/// The text that the first word asks for: `--help`, `-h` or `help`, or `--version`. A cause after a word for help asks
 /// for the text of that cause.
 pub fn text_of(words: &Words, texts: ProgramTexts) -> Option<&'static str>
     ensures { option_map (λ text. text.now) result ≡ asked_text texts words.now }

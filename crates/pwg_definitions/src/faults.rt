@@ -11,9 +11,9 @@ pub enum HeaderFault {
     Width,
     /// It is too short or too tall.
     Height,
-    /// Its bits and colour space are no row of the table of kinds.
+    /// Its bits and colour space are not in the table of kinds.
     Kind,
-    /// Its bytes a line are not those that its width takes.
+    /// Its BytesPerLine is not the length of a line of its width.
     BytesPerLine,
     /// The colours of its pixels are not side by side (ColorOrder is not 0).
     Order,

@@ -20,8 +20,8 @@ impl Kind {
     ghost use Rattle.pwg_definitions.specs.Header.{line_bytes, row_of};
     ghost use Rattle.std.specs.Prelude.{◌<◌, ◌^◌};
 
-    /// How many bytes the unit of a line has, which its packets repeat: a pixel of 1, 3 or 4 bytes, or eight pixels of
-    /// one bit.
+    /// The length in bytes of a unit, which the packets of a line repeat: a pixel of 1, 3 or 4 bytes, or eight pixels
+    /// of one bit.
     #[inline]
     pub fn unit(self) -> usize
         ensures value { result ≡ (row_of self).unit }
@@ -35,7 +35,7 @@ impl Kind {
         }
     }
 
-    /// How many bytes pixels of this kind take, without gaps.
+    /// How many bytes this many pixels of the kind take, without gaps.
     pub fn line_bytes(self, pixels: usize) -> usize
         requires { pixels < 2 ^ 33 }
         ensures { result ≡ line_bytes pixels (row_of self).bits_per_pixel }
@@ -93,7 +93,7 @@ pub struct Header {
     pub bits_per_pixel: u32,
     /// BytesPerLine.
     pub bytes_per_line: u32,
-    /// ColorOrder: 0 where the colours of a pixel are side by side.
+    /// ColorOrder: 0 if the colours of a pixel are side by side.
     pub color_order: u32,
     /// ColorSpace: 18 for grey, 3 for black, 19 for red, green and blue, 6 for cyan, magenta, yellow and black.
     pub color_space: u32,
@@ -103,7 +103,7 @@ pub struct Header {
     pub feed_transform: u32,
 }
 
-/// What a driver wants of each page: its resolution in dots an inch, and the bounds of its size in pixels.
+/// The pages that a driver wants: their resolution in dots an inch, and the bounds of their size in pixels.
 #[derive(Clone, Copy, Debug, PartialEq, Eq)]
 pub struct Wanted {
     /// Dots an inch across the page.

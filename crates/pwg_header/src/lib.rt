@@ -1,9 +1,9 @@
 //! The header of a page of PWG Raster (PWG 5102.4, section 4.3): reading it, checking it, and writing it.
 //!
-//! `read_header` gives exactly the fields, whatever they say. `check` gives the form of the page, or the first fault in
-//! the order of `HeaderFault`. `write_header` makes all 1,796 bytes, and whoever wants this resolution and a page of
-//! this form accepts them. `src/kinds.rt` has the table of kinds, from a kind to its numbers and back. No call takes
-//! memory.
+//! `read_header` returns exactly the fields, valid or not. `check` returns the form of the page, or the first fault in
+//! the order of `HeaderFault`. `write_header` writes all 1,796 bytes; a reader that wants this resolution and a page of
+//! this form accepts them. `src/kinds.rt` has the table of kinds, from a kind to its numbers and back. No call
+//! allocates memory.
 #![tactic(auto)]
 
 mod checking;

@@ -13,7 +13,7 @@ fn number(b: &[u8; HEADER_LEN], offset: usize) -> u32
     BigEndian::read_u32(&b[offset..offset + 4])
 }
 
-/// The fields of a header, whatever they say: `check` tests them.
+/// The fields of a header, valid or not. `check` tests them.
 pub fn read_header(b: &[u8; HEADER_LEN]) -> Header
     ensures { result ≡ header_of b.now }
 {

@@ -28,7 +28,7 @@ fn begin(out: &mut [u8; HEADER_LEN])
 pub fn write_header(f: &PageForm, hdpi: u32, vdpi: u32, out: &mut [u8; HEADER_LEN])
     ensures bytes { out.new ≡ header_bytes f.now hdpi vdpi }
 
-    // Whoever wants this resolution and a page of this form accepts the header.
+    // A reader that wants this resolution and a page of this form accepts the header.
     ensures accepted { (want : Wanted) → want.hdpi ≡ hdpi → want.vdpi ≡ vdpi → IsWanted want f.now
         → check want (header_of out.new) ≡ Ok f.now }
 {

@@ -1,4 +1,4 @@
-//! Streams, headers and groups, and what they are read as.
+//! Examples of streams, headers and groups, and how each is read.
 #![tactic(auto, unfolding(pwg_definitions::specs::Groups::line_at, pwg_definitions::specs::Header::header_bytes, pwg_definitions::specs::Stream::lines_at, pwg_definitions::specs::Stream::pages_from, pwg_definitions::specs::Stream::stream))]
 
 ghost use Rattle.std.specs.Prelude.{Err, Ok, [], drop, false, length, replicate, take, ◌++◌, ◌∷◌, ◌≡◌};
@@ -118,7 +118,7 @@ pub fn header_faults()
     ensures planes { checked (record good { color_order = 1 }) ≡ Err fault.Order }
 {}
 
-/// Of two faults of a header the one that is checked first is answered.
+/// If a header has two faults, the result is the one that is checked first.
 pub fn header_fault_order()
     ensures text { checked (record good { is_pwg = false; hres = 300 }) ≡ Err fault.NotPwg }
     ensures resolution { checked (record good { hres = 300; width = 0 }) ≡ Err fault.Resolution }

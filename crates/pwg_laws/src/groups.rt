@@ -1,4 +1,4 @@
-//! Groups of equal lines: what is spelled is read, what is read was spelled, and a fault is decided by its byte.
+//! Groups of equal lines: every spelling is read, what is read was spelled, and the bytes up to a fault decide it.
 ghost use Rattle.std.specs.Prelude.{List, [], take, ℕ, ◌++◌, ◌+◌, ◌≡◌};
 ghost use Rattle.pwg_definitions.specs.Groups.GroupRead.{Group, Wrong};
 ghost use Rattle.pwg_definitions.specs.Groups.{IsBytes, SpellsGroup, group_at};
@@ -26,7 +26,7 @@ pub fn spelled_once()
         → (more ≡ []) × (repeats ≡ repeats') × (line ≡ line') }
 {}
 
-/// A fault is decided by the bytes up to and with its own, whatever follows.
+/// The bytes up to and including a fault's own byte decide the fault, whatever follows.
 pub fn fault_stands()
     ensures { (row : KindRow) (units left : ℕ) (bytes more : List ℕ) (place : ℕ) (fault : LineFault)
         → group_at row units left bytes ≡ Wrong place fault

@@ -10,7 +10,7 @@ ghost use Rattle.pwg_definitions.specs.Stream.{IsPage, Page, page_at, stream};
 ghost use Rattle.pwg_definitions.specs.declared.pages.PageForm.{PageForm};
 ghost use Rattle.pwg_definitions.specs.declared.pages.Wanted.{Wanted};
 
-/// Each page of a stream is a wanted page: as many lines as its height, each as long as its width takes.
+/// Each page of a stream is a wanted page. It has as many lines as its height, each as long as its width takes.
 pub fn pages_are_wanted()
     ensures { (want : Wanted) (bytes : List ℕ) → AllByRecursion (IsPage want) (stream want bytes).pages }
 {}
@@ -40,7 +40,7 @@ pub fn read_stream_is_spelled()
         → IsBytes bytes → stream want bytes ≡ record { pages = pages; end = Done } → SpellsStream want bytes pages }
 {}
 
-/// A written header is accepted, and gives the form that was written.
+/// A written header is accepted, and `check` returns the form that was written.
 pub fn written_is_accepted()
     ensures { (want : Wanted) (form : PageForm) → IsWanted want form
         → form.width < 2 ^ 32 → form.height < 2 ^ 32 → form.bytes_per_line < 2 ^ 32 → want.hdpi < 2 ^ 32

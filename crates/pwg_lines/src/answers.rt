@@ -1,4 +1,4 @@
-//! The answers of a reader of lines.
+//! The results of a reader of lines.
 use pwg_definitions::LineFault;
 
 /// What a call of `LineReader::feed` found.
@@ -6,7 +6,7 @@ use pwg_definitions::LineFault;
 pub enum Fill {
     /// The piece ends before the group does.
     More,
-    /// A group is read. `LineReader::line` gives its line, which is repeated `repeats` times, 1 to 256.
+    /// A group is read. `LineReader::line` returns its line, which is repeated `repeats` times, 1 to 256.
     Line { repeats: u32 },
     /// The group is refused, and with it the rest of the page.
     Fault(LineFault),

@@ -3,18 +3,18 @@
 //! bytes, or a byte with eight pixels of one bit.
 //!
 //! A `LineReader` stands for the bytes of a group that it has read (`StandsFor`), however they were cut into pieces.
-//! `feed` answers `More` where the whole piece was used and the group is not yet whole; `Line` where the group ends
-//! with the last byte that was used, whatever follows; and `Fault` where the last byte that was used shows the first
-//! fault, whatever follows. After a fault each call answers it again, and uses nothing.
+//! `feed` returns `More` if it used the whole piece and the group is not yet complete. It returns `Line` if the group
+//! ends with the last byte that was used, whatever follows, and `Fault` if the last byte that was used shows the first
+//! fault, whatever follows. After a fault each call returns the fault again and uses no byte.
 //!
-//! `begin`, `restart` and a line that was given leave the reader before a group (`IsAnew`), where it stands for no
-//! bytes (`anew_stands` in `proofs/Feeding.antt`). A struct that holds a reader may keep `IsAnew` as a ghost field.
-//! `begin` allocates one line. `restart` answers `Memory` only where the new line is longer than the old one, and then
-//! the reader is unchanged. `feed` takes no memory.
+//! After `begin`, after `restart` and after each `Line` the reader is before a group (`IsAnew`) and stands for no bytes
+//! (`anew_stands` in `proofs/Feeding.antt`). A struct that holds a reader may keep `IsAnew` as a ghost field. `begin`
+//! allocates one line. `restart` returns `Memory` only if the new line is longer than the old one; the reader is then
+//! unchanged. `feed` allocates no memory.
 //!
-//! `code_line` appends exactly the canonical group of a line, or answers `Memory` and appends nothing. It succeeds
-//! where the output has room for a byte and for two for each byte of the line. `fill_units` puts copies of a unit into
-//! a line. `canonical_spells`: this group is a spelling of the line.
+//! `code_line` appends exactly the canonical group of a line, or returns `Memory` and appends nothing. It succeeds if
+//! the output has room for one byte more than two for each byte of the line. `fill_units` puts copies of a unit into a
+//! line. `canonical_spells` proves that the canonical group spells the line.
 #![tactic(auto)]
 
 mod answers;

@@ -65,8 +65,8 @@ impl LineReader {
         })
     }
 
-    /// Begins the lines of another page, of this form, wherever the reader stands. It reuses its allocation where
-    /// the new line is no longer than the old one. On `Memory` the reader is unchanged.
+    /// Begins the lines of another page, of this form, whatever the reader has read. It reuses its allocation if the
+    /// new line is no longer than the old one. On `Memory` the reader is unchanged.
     pub fn restart(&mut self, form: PageForm) -> Result<(), Memory>
         requires narrowest { 1 ≤ form.width }
         requires widest { form.width ≤ most_columns }
@@ -90,9 +90,9 @@ impl LineReader {
         Ok(())
     }
 
-    /// Reads the next bytes of the page's lines, of any number, and takes no memory. It stops after the last byte of
-    /// a group, or after the byte that shows a fault: a count past the page, or the first byte of a packet with more
-    /// units than the line has left. The next call is given the rest of the piece, and more.
+    /// Reads the next bytes of the page's lines, of any number, and allocates no memory. It stops after the last byte
+    /// of a group, or after the byte that shows a fault: a count past the page, or the first byte of a packet with more
+    /// units than the line has left. Give the rest of the piece to the next call, and then more.
     pub fn feed(&mut self, piece: &[u8]) -> Fed
         ensures used { result.used ≤ length piece.now }
         ensures form { form_of self.new ≡ form_of self.old }
@@ -139,8 +139,8 @@ impl LineReader {
         self.lines_left
     }
 
-    /// The bytes of the line of the last group, where the last call of `feed` answered `Fill::Line`;
-    /// after another answer they mean nothing.
+    /// The line of the last group, if the last call of `feed` returned `Fill::Line`. Otherwise these bytes mean
+    /// nothing.
     pub fn line(&self) -> &[u8]
         ensures line { result.now ≡ line_of self.now }
         ensures sized { length result.now ≡ (form_of self.now).bytes_per_line }

@@ -22,7 +22,7 @@ pub enum State {
     Failed(LineFault),
 }
 
-/// How many units the packet with this first byte gives, where the line has `left` units left.
+/// How many units the packet with this first byte gives, if the line has `left` units left.
 pub fn units_of(left: usize, first: u8) -> usize
     ensures { result ≡ groups.units_of left first }
 {
@@ -33,7 +33,7 @@ pub fn units_of(left: usize, first: u8) -> usize
     }
 }
 
-/// Where a reader stands after a packet, where the line has `left` units left.
+/// The state of a reader after a packet, if the line has `left` units left.
 pub fn state_after(left: usize) -> State
     ensures { result ≡ behind_packet left }
 {

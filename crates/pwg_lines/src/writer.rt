@@ -21,7 +21,7 @@ pub fn code_line(line: &[u8], unit: usize, repeats: u32, out: &mut Vec<u8>) -> R
     ensures ok { OnOk result (out.new.items ≡ out.old.items ++ canonical unit repeats line.now) }
     ensures err { OnErr result (out.new.items ≡ out.old.items) }
 
-    // The capacity never shrinks, and is enough with a byte more than two for each byte of the line.
+    // The capacity never shrinks. One byte more than two for each byte of the line is enough.
     ensures capacity { vec_capacity out.old ≤ vec_capacity out.new }
     ensures room { vec_len out.old + 1 + 2 * length line.now ≤ vec_capacity out.old → IsOk result }
 {

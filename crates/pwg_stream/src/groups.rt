@@ -14,13 +14,13 @@ use weave_base::Source;
 /// Why no group was read.
 #[derive(Clone, Copy, Debug, PartialEq, Eq)]
 pub enum GroupStop {
-    /// The text begins with no group of the page, for this cause.
+    /// The text does not begin with a group of the page, for this cause.
     Input(InputCause),
     /// A read failed.
     Read,
 }
 
-/// Reads the next group of a page, and gives its repeats; `lines` has its line.
+/// Reads the next group of a page and returns its repeats. `lines` has its line.
 pub fn read_group<S: Source>(
     unread: &mut Unread,
     lines: &mut LineReader,

@@ -41,7 +41,7 @@ fn first_header(bytes: &[u8]) -> Option<&[u8; HEADER_LEN]>
     Some(header)
 }
 
-/// Reads the header of the next page, after `pages` pages. `None`: the text is at its end.
+/// Reads the header of the next page, after `pages` pages. Returns `None` if the text is at its end.
 pub fn read_page_header<S: Source>(
     unread: &mut Unread,
     source: &mut S,

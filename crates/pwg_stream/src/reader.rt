@@ -92,8 +92,8 @@ impl PageReader {
         })
     }
 
-    /// Begins the next page and gives its form, or `None` at the end of the text. All lines of the page before must be
-    /// given.
+    /// Begins the next page and returns its form, or `None` at the end of the text. All lines of the page before must
+    /// have been read.
     pub fn next_page<S: Source>(
         &mut self,
         source: &mut S,
@@ -128,11 +128,11 @@ impl PageReader {
         ensures used { UsesSome (text_of self.old (S.left source.old)) (text_of self.new (S.left source.new)) }
         ensures later { S.faults source.old ≤ S.faults source.new }
 
-        // Where no page was begun, no line is left.
+        // If no page was begun, no line is left.
         ensures none_left { IfOk result (λ o. IfNone o (lines_left_of self.new ≡ 0)) }
         ensures left { OnErr result (lines_left_of self.new ≡ 0) }
 
-        // A stop is answered again by each later call, and so is the end.
+        // After a stop each later call returns the same stop. The same holds for the end.
         ensures going { OnOk result (stop_of self.new ≡ None) }
         ensures stop { IfErr result (λ stop. stop_of self.new ≡ Some stop) }
         ensures again { (stop : StreamStop) → stop_of self.old ≡ Some stop → (result ≡ Err stop) × (self.new ≡ self.old)
@@ -228,9 +228,9 @@ impl PageReader {
         Ok(())
     }
 
-    /// Reads the next group of the page's lines, and gives its repeats, 1 to 256; `line` is its line.
+    /// Reads the next group of the page's lines and returns its repeats, 1 to 256. `line` returns its line.
     ///
-    /// It answers `StreamStop::Memory` only where an earlier call did.
+    /// It returns `StreamStop::Memory` only if an earlier call did.
     pub fn next_line<S: Source>(&mut self, source: &mut S) -> Result<u32, StreamStop>
         requires { 0 < lines_left_of self.old }
 
@@ -246,7 +246,7 @@ impl PageReader {
         ensures later { S.faults source.old ≤ S.faults source.new }
         ensures left { OnErr result (lines_left_of self.new ≡ lines_left_of self.old) }
 
-        // A stop is answered again by each later call.
+        // After a stop each later call returns the same stop.
         ensures going { OnOk result (stop_of self.new ≡ None) }
         ensures stop { IfErr result (λ stop. stop_of self.new ≡ Some stop) }
         ensures again { (stop : StreamStop) → stop_of self.old ≡ Some stop → (result ≡ Err stop) × (self.new ≡ self.old)
@@ -271,7 +271,7 @@ impl PageReader {
         }
     }
 
-    /// How many lines of the page are not yet given: 0 where no page was begun.
+    /// How many lines of the page are not yet read: 0 if no page was begun.
     pub fn lines_left(&self) -> u32
         ensures { result ≡ lines_left_of self.now }
     {
@@ -281,7 +281,7 @@ impl PageReader {
         }
     }
 
-    /// The bytes of the line that `next_line` gave, until the reader is called again to read.
+    /// The line that `next_line` read, until the reader is called again to read.
     pub fn line(&self) -> &[u8]
         ensures line { result.now ≡ line_of self.now }
         ensures sized { (form : PageForm) → current_form self.now ≡ Some form → length result.now ≡ form.bytes_per_line }

@@ -1,4 +1,4 @@
-//! What pages are read for, and comparisons of what a call gave with what was wanted.
+//! The printer for which pages are read, and comparisons of what a call returned with what was expected.
 use pwg_header::Wanted;
 use std::fmt::Debug;
 use std::process::Abort;

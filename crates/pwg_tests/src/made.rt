@@ -1,5 +1,4 @@
-//! Made streams, appended and read as a source. What is expected was computed by a program that is not of this
-//! repository.
+//! Made streams, appended and read as a source. A program outside this repository computed the expected results.
 use crate::checks::{WANT, same, same_bytes};
 use hash_fixtures::hash_of;
 use page_maker::{PageMaker, made_form, make_pages};

@@ -1,11 +1,11 @@
-//! Rows of raw lines, as they are kept.
+//! Rows that are kept as raw lines.
 ghost use Rattle.raw_rows.specs.Lines.{AreEarlier, AreInOrder, AreThere, IsSlabSize, kept_bytes};
 ghost use Rattle.std.specs.Prelude.{vec_capacity, vec_len, ◌*◌, ◌≡◌, ◌≤◌};
 
 use ink_separation::Separator;
 
-/// Rows of a slab by their lines. Line n begins at `len` n, and is the line of the rows whose index is n. Lines stand
-/// in the order of the rows, and there is room for one of each row.
+/// The rows of a slab, by their lines. Line n begins at byte `len` times n, and is the line of the rows whose index is
+/// n. Lines stand in the order of the rows. There is room for one line for each row.
 #[derive(Drop)]
 pub struct RawRows {
     pub(crate) separator: Separator,

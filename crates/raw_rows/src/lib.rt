@@ -1,9 +1,9 @@
-//! Rows of a slab whose lines are kept as they were read. A tile separates what it gathers, so the thread that works it
-//! does that. A repeated line is kept once.
+//! Rows of a slab whose lines are kept as they were read. Pixels are separated when a tile gathers them, by the thread
+//! that works the tile. A repeated line is kept once.
 //!
-//! `RawRows` are `TileRows`: their amounts are the formula of the separator at the pixels of the line that each row
-//! has. `make` takes the memory for all lines, or answers `Memory`. `put_line` gives a row a line, and `repeat_line`
-//! the line of the row above it; the rows above keep their amounts, while those below may get any.
+//! `RawRows` are `TileRows`: the amounts of a row are those of the separator's formula at the pixels of the row's line.
+//! `make` allocates the memory for all lines, or returns `Memory`. `put_line` gives a row a line, and `repeat_line`
+//! gives it the line of the row above. The rows above keep their amounts; the rows below may get any.
 #![tactic(auto)]
 
 mod gathering;

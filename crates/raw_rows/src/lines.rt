@@ -71,8 +71,8 @@ fn number_from(index: &mut [u16; 256], y: usize, n: u16)
 }
 
 impl RawRows {
-    /// Room for 1 to 256 rows, of 1 to `MOST_COLUMNS` columns. It takes the memory for all lines, and touches that of
-    /// one. The contract does not say what amounts the rows have at first.
+    /// Room for 1 to 256 rows, of 1 to `MOST_COLUMNS` columns. The call allocates the memory for all lines, and touches
+    /// the memory of one. The contract does not say what amounts the rows have at first.
     pub fn make(alloc: Global, separator: Separator, rows: u32) -> Result<RawRows, Memory>
         requires { IsSlabSize separator rows }
         ensures rows { IfOk result (λ raw. raw.rows ≡ rows) }
@@ -91,7 +91,7 @@ impl RawRows {
         })
     }
 
-    /// Leaves room for fewer rows. The contract does not say what amounts they have then.
+    /// Leaves room for fewer rows. The contract does not say what amounts the rows have then.
     pub fn shorten(&mut self, rows: u32)
         requires some { 1 ≤ rows }
         requires most { rows ≤ self.old.rows }
@@ -108,7 +108,7 @@ impl RawRows {
         self.rows
     }
 
-    /// Gives row y a line. The rows above it keep their amounts; those below it may get any.
+    /// Gives row y a line. The rows above keep their amounts; the rows below may get any.
     pub fn put_line(&mut self, y: u32, line: &[u8])
         requires y { y < self.old.rows }
         requires line { kept_bytes self.old.separator ≤ length line.now }
@@ -124,7 +124,7 @@ impl RawRows {
         number_from(&mut self.index, y as usize, n);
     }
 
-    /// Gives row y the line of the row above it. The rows above it keep their amounts; those below it may get any.
+    /// Gives row y the line of the row above. The rows above keep their amounts; the rows below may get any.
     pub fn repeat_line(&mut self, y: u32)
         requires some { 1 ≤ y }
         requires y { y < self.old.rows }

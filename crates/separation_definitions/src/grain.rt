@@ -1,4 +1,4 @@
 //! The greatest grain.
 
-/// The greatest grain, in amounts: none is moved by more.
+/// The greatest grain, in amounts. Grain moves no amount by more than this.
 pub const MOST_GRAIN: u8 = 32;

@@ -1,4 +1,4 @@
-//! Bands that are put into planes, beside their tiles put one by one, and one worked by hand.
+//! Bands put into planes, compared with their tiles put one by one, and a band worked by hand.
 ghost use Rattle.std.specs.Prelude.{◌≤◌};
 
 use crate::checks::{Row, has_rows, row};

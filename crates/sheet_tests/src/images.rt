@@ -1,4 +1,4 @@
-//! Images of a sheet of ten columns, whose planes have more, and of the sheet of a small job.
+//! Images of a sheet of ten columns, whose planes have more columns, and of the sheet of a small job.
 ghost use Rattle.dot_emulator.specs.Sheets.{IsBlankFrom};
 ghost use Rattle.base_definitions.specs.Limits.{most_columns};
 ghost use Rattle.std.specs.Prelude.{◌≡◌};

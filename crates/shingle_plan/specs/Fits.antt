@@ -4,7 +4,7 @@ use Rattle.std.specs.Int.{IsGcd}
 use Rattle.std.specs.Prelude.{ℕ, ◌≤◌}
 use Rattle.shingle_plan.specs.Shingles.{half}
 
--- A head can shingle if half its nozzles, at least one, and the pitch have no common divisor but 1.
+-- A head can shingle if half its nozzles, at least one, and the pitch are coprime.
 abbrev pub Shingles : ℕ → ℕ → Type 0
 Shingles nozzles pitch = (1 ≤ half nozzles) × (1 ≤ pitch) × IsGcd (half nozzles) pitch 1
 

@@ -1,11 +1,11 @@
-//! The law, and worked heads that the check computes, each the contract of an empty function.
+//! The law, and worked heads that the checker computes, each the contract of an empty function.
 ghost use Rattle.shingle_plan.specs.Examples.{one_row, six_rows, two_rows};
 ghost use Rattle.shingle_plan.specs.Fits.{Shingles};
 ghost use Rattle.shingle_plan.specs.Shingles.{FiresEachRowTwice, half, rows_above, shingle_count, shingles};
 ghost use Rattle.std.specs.Prelude.{ℕ, ◌≡◌};
 
-/// If half the nozzles, at least one, and the pitch have no common divisor, the passes of a head fire each row of a
-/// window once at its even columns and once at its odd columns, and no other row.
+/// If half the nozzles, at least one, and the pitch are coprime, the passes of a head fire each row of a window once at
+/// its even columns and once at its odd columns, and no other row.
 pub fn each_row_is_fired_twice()
     ensures { (nozzles pitch height : ℕ) → Shingles nozzles pitch
         → FiresEachRowTwice (half nozzles) height (shingles nozzles pitch height) }

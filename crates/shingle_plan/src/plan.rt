@@ -1,4 +1,4 @@
-//! A plan of shingled passes answers which row a nozzle fires in a pass, and at which columns.
+//! A plan of shingled passes: which row a nozzle fires in a pass, and at which columns.
 ghost use Rattle.base_definitions.specs.Limits.{most_rows};
 ghost use Rattle.shingle_plan.specs.Fits.{Shingles};
 ghost use Rattle.shingle_plan.specs.Shingles.{fires_even, half, rows_above, shingle_count, shingle_row};
@@ -6,8 +6,8 @@ ghost use Rattle.std.specs.Prelude.{◌*◌, ◌<◌, ◌≡◌, ◌≤◌};
 
 use std::marker::Model;
 
-/// The shingled passes of a head over a window: the head moves down by as many rows as half its nozzles after each
-/// pass, so that its nozzles, which are `pitch` rows apart, fire each row exactly twice.
+/// The shingled passes of a head over a window. After each pass the head moves down by as many rows as half its
+/// nozzles, so its nozzles, which are `pitch` rows apart, fire each row exactly twice.
 #[derive(Drop)]
 pub struct ShinglePlan {
     nozzles: u8,
@@ -27,7 +27,7 @@ impl Model for ShinglePlan {
 
 impl ShinglePlan {
     /// A plan for a head of `nozzles` nozzles that are `pitch` rows apart, over a window of `height` rows: at most 22
-    /// inches, at 720 rows an inch. `shingle_fits` tests the head.
+    /// inches at 720 rows an inch. The head must pass `shingle_fits`.
     pub fn make(nozzles: u8, pitch: u8, height: u32) -> ShinglePlan
         requires fits { Shingles nozzles pitch }
         requires some_rows { 1 ≤ height }
@@ -56,7 +56,7 @@ impl ShinglePlan {
         (2 * u32::from(self.nozzles / 2) - 1) * u32::from(self.pitch)
     }
 
-    /// The row of the first nozzle in a pass, counted from where it is in the first pass.
+    /// The row of the first nozzle in a pass, counted from its row in the first pass.
     pub fn first_row(&self, pass: u32) -> u32
         requires { pass < shingle_count self.now.nozzles self.now.pitch self.now.height }
         ensures { result ≡ pass * half self.now.nozzles }
@@ -64,8 +64,8 @@ impl ShinglePlan {
         pass * u32::from(self.nozzles / 2)
     }
 
-    /// The row of the window that a nozzle fires in a pass, counted from the top, or `None` where the nozzle is above
-    /// the window or below it, and for the last of an odd number of nozzles.
+    /// The row of the window that a nozzle fires in a pass, counted from the top. `None` if the nozzle is above the
+    /// window or below it, and for the last of an odd number of nozzles.
     pub fn row(&self, pass: u32, nozzle: u8) -> Option<u32>
         requires pass { pass < shingle_count self.now.nozzles self.now.pitch self.now.height }
         requires nozzle { nozzle < self.now.nozzles }
@@ -81,7 +81,7 @@ impl ShinglePlan {
         }
     }
 
-    /// Whether a nozzle fires the even columns of its rows, counted from 0, or else the odd ones.
+    /// Whether a nozzle fires the even columns of its rows, counted from 0. If not, it fires the odd ones.
     pub fn fires_even(&self, nozzle: u8) -> bool
         ensures { result ≡ fires_even self.now.nozzles nozzle }
     {

@@ -1,4 +1,5 @@
-//! The dots of a slab of 200 columns and 70 rows, in one ink, where every amount is 100 and every error above it 0.
+//! The dots of a slab of 200 columns and 70 rows, in one ink, in which every amount is 100 and every error above the
+//! slab is 0.
 use hash_fixtures::hash_of;
 
 /// How many bytes rows of dots have, how many dots, and the hash of all of them.

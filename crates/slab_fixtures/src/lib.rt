@@ -1,5 +1,5 @@
-//! What tests of slabs share, whether passes, a team or a whole run diffuse them: the dots of a level slab, and a gate
-//! at which two tiles meet.
+//! What tests of slabs share, whether passes, a team or a whole run diffuse the slabs: the dots of a level slab, and a
+//! gate at which two tiles meet.
 #![tactic(auto)]
 
 mod level_slab;

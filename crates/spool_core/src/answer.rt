@@ -41,7 +41,7 @@ pub enum SpoolAnswer {
     },
     /// Memory ran out.
     Memory,
-    /// All jobs ran, and the input of so many was refused, or went past the cap of a meter.
+    /// All jobs ran, and the input of `count` jobs was refused, or went past the cap of a meter.
     Failed {
         count: u32,
     },

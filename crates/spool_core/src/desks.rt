@@ -1,4 +1,4 @@
-//! A desk: a spool with its senders' work and its printer's pass, and room for what they leave.
+//! A desk: a spool with its senders' work and its printer's pass, and room for what senders and printer leave.
 ghost use Rattle.spool_core.specs.Desks.{IsDesk};
 ghost use Rattle.spool_core.specs.Prepared.{AreFew};
 ghost use Rattle.spool_queue.specs.Jobs.{count_sent};
@@ -10,7 +10,7 @@ use base_definitions::Memory;
 use spool_queue::{PrintPass, SendPass, Spool, StreamBytes};
 use std::alloc::Global;
 
-/// All that it takes to send some jobs, and to take them.
+/// All that is needed to send some jobs, and to take them.
 #[derive(Drop)]
 pub struct Desk {
     pub spool: Spool,
@@ -39,8 +39,8 @@ fn count_streams(lists: &[Vec<StreamBytes>]) -> u32
 }
 
 impl Desk {
-    /// A desk whose queue has room for all these streams, the list of each sender in its order. `Memory` where there is
-    /// no room for all that it ever needs.
+    /// A desk whose queue has room for all these streams, the list of each sender in its order. Returns `Memory` if
+    /// there is no memory for all that the desk ever needs.
     pub fn make(alloc: Global, lists: Vec<Vec<StreamBytes>>) -> Result<Desk, Memory>
         requires { AreFew (map (λ list. list.items) lists.items) }
         ensures { IfOk result (IsDesk (map (λ list. list.items) lists.items)) }

@@ -14,15 +14,15 @@ use weave_base::{Found, Shelf, ShelfStop};
 /// The most bytes of a file.
 pub const MOST_FILE: usize = 268_435_456;
 
-/// The most bytes of all files together. A name that stands twice counts twice.
+/// The most bytes of all files together. A file that is named twice counts twice.
 pub const MOST_FILES: usize = 2_147_483_648;
 
 /// Why a file is refused.
 #[derive(Clone, Copy, Debug, PartialEq, Eq)]
 pub enum FileCause {
-    /// The shelf has none of its name.
+    /// The shelf has no file of this name.
     Absent,
-    /// It has more bytes than a file may have, or than the files before it leave.
+    /// The file has more bytes than a file may have, or than the files before it leave.
     TooLong,
 }
 
@@ -111,8 +111,8 @@ fn read_sender<F: Shelf>(
     Ok(list)
 }
 
-/// Reads the files of all senders, in the order of senders and their names. Each has at most `MOST_FILE` bytes, and all
-/// together have at most `MOST_FILES`. `Err` is the answer of a run that goes no further: the first file that is
+/// Reads the files of all senders, in the order of senders and their names. Each file has at most `MOST_FILE` bytes,
+/// and all together have at most `MOST_FILES`. `Err` has the answer if the run ends here: the first file that is
 /// refused or whose read fails, or out of memory.
 pub fn read_files<F: Shelf>(
     alloc: Global,

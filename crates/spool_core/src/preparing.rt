@@ -1,4 +1,4 @@
-//! What words ask for.
+//! Prepares what words ask for.
 ghost use Rattle.driver_core.specs.Outside.{texts_of, Outside, Meters};
 ghost use Rattle.spool_core.specs.Outcome.{PrintsNone, SpoolOutcome};
 ghost use Rattle.spool_core.specs.Prepared.{IsPrepared};
@@ -23,18 +23,18 @@ pub struct PreparedSpool {
 }
 
 /// Reads the words, then finds the profile, and then reads all files from the shelf, in the order of senders and their
-/// names. `Err` is the answer of a run that goes no further.
+/// names. `Err` has the answer if the run ends here.
 pub fn prepare<F: Shelf>(
     alloc: Global,
     words: &Words,
     shelf: &mut F,
 ) -> Result<PreparedSpool, SpoolAnswer>
     ensures prepared { IfOk result (IsPrepared words.now (F.files shelf.old)) }
-    // Where nothing was printed, this is the outcome of the run.
+    // If nothing was printed, this is the outcome of the run.
     ensures answered { IfErr result (λ a. (out : Outside) (meters : Meters) → PrintsNone out meters []
         → SpoolOutcome words.now
         (record { shelf = texts_of F.files F.faults shelf.old shelf.new; out = out; meters = meters }) [] a) }
-    // Nothing is read from the shelf where a word is refused.
+    // Nothing is read from the shelf if a word is refused.
     ensures refused_unasked { IsErr (spool_meaning words.now) → (shelf.new ≡ shelf.old) }
 {
     let request = read_spool_words(words)?;

@@ -39,8 +39,8 @@ fn print_bytes<R: Threads + Sync, K: Sink, G: Gate + Sync>(
     print_stream(rt, alloc, how, &mut input, out, gate, meters)
 }
 
-/// Takes and prints so many jobs, and notes in `done` what was done of each. A job whose write fails is the last: `Err`
-/// is the answer. `done` is empty, and has room for all jobs.
+/// Takes and prints `count` jobs, and notes in `done` what was done of each. A job whose write fails is the last, and
+/// `Err` has the answer. `done` is empty, and has room for all jobs.
 pub fn print_jobs<R: Threads + Wait + Sync, K: Sink, G: Gate + Sync>(
     rt: &R,
     alloc: Global,
@@ -121,7 +121,7 @@ fn sum_up(done: &[Ran]) -> SpoolAnswer
     }
 }
 
-/// The answer to what the printer did: that of its failed write, or what its jobs come to.
+/// The answer for what the printer did: the answer of its failed write, else the answer for the jobs that ran.
 pub fn answer_for(printed: Result<(), SpoolAnswer>, done: &[Ran]) -> SpoolAnswer
     requires few { length done.now < 2 ^ 31 }
     requires plain { OnOk printed (All HasPlainStatus done.now) }

@@ -12,7 +12,7 @@ use driver_answer::{ErrorLine, push_number};
 use weave_base::{Failed, Sink, put_all};
 
 /// A job that ran: its sender and its number, both counted from 1, how many of its pages were written whole, and the
-/// status of its printing, as `run` of the driver has it.
+/// status of its printing, as `run` of the driver returns it.
 #[derive(Clone, Copy, Debug, PartialEq, Eq)]
 pub struct Ran {
     pub sender: u8,
@@ -21,7 +21,7 @@ pub struct Ran {
     pub status: u8,
 }
 
-/// What a run of the spool did: its exit status, the answer whose status it is, and the jobs that ran, in their order.
+/// What a run of the spool did: its exit status, the answer with that status, and the jobs that ran, in their order.
 #[derive(Debug, Drop)]
 pub struct SpoolReport {
     pub status: u8,
@@ -60,7 +60,8 @@ fn tell_done<E: Sink>(done: &[Ran], err: &mut E) -> Result<(), Failed>
     Ok(())
 }
 
-/// Writes a line for each job that ran, in their order, and then that of the answer, up to the first write that fails.
+/// Writes a line for each job that ran, in their order, and then the line of the answer, up to the first write that
+/// fails.
 pub fn tell<E: Sink>(done: &[Ran], answer: &SpoolAnswer, err: &mut E)
     ensures { IsReported (outside_of E.held E.faults err.old err.new) (spool_text done.now answer.now) }
 {

@@ -123,15 +123,16 @@ fn work<R: Threads + Wait + Sync, K: Sink, F: Shelf, G: Gate + Sync>(
     }
 }
 
-/// Runs the spool: the words name a profile, a kernel, a grain, a number of workers, and for each of up to eight
-/// senders its files; the files are page streams (PWG Raster, PWG 5102.4), and each is a job. All files are read from
-/// the shelf, the senders submit them, and the printer prints each as the driver's `print` does, one after another, as
-/// ESC/P2 commands on `out`. A sender's jobs are printed in its order; which sender's is printed first is left open.
+/// Runs the spool. The words name a profile, a kernel, a grain, a number of workers, and the files of each of up to
+/// eight senders. The files are page streams (PWG Raster, PWG 5102.4), and each is a job. All files are read from the
+/// shelf, and the senders submit them. The printer prints the jobs one after another as ESC/P2 commands on `out`, each
+/// as the driver's `print` does. A sender's jobs are printed in its order; which sender's job is printed first is left
+/// open.
 ///
 /// The status of the report is the exit status: 0 every job was printed, 1 a word is refused, 2 the profile is refused,
 /// 3 a file is absent or too long, 4 a read of the shelf failed, 5 a write failed, 7 memory ran out, 9 all jobs ran,
 /// and the input of some was refused or went past the cap of a meter. `err` gets a line for each job that ran, and then
-/// one for each status but 0.
+/// one for the status unless the status is 0.
 ///
 /// After a failed write no further job is printed. A job for which memory runs out is noted, and the next is printed.
 pub fn run_spool<R: Threads + Wait + Sync, K: Sink, E: Sink, F: Shelf, G: Gate + Sync>(
@@ -151,7 +152,7 @@ pub fn run_spool<R: Threads + Wait + Sync, K: Sink, E: Sink, F: Shelf, G: Gate +
           meters = meters_of (λ meter. account meter) meters.old.items meters.new.items;
         })
         (outside_of E.held E.faults err.old err.new) result.status result.answer result.done.items }
-    // Nothing is read from the shelf where a word is refused.
+    // Nothing is read from the shelf if a word is refused.
     ensures refused_unasked { IsErr (spool_meaning words.now) → (shelf.new ≡ shelf.old) }
 {
     let Finished { answer, done } = work(rt, alloc, words, out, shelf, gate, meters);

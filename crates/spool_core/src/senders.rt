@@ -1,4 +1,4 @@
-//! The senders: each submits its streams, on a thread of its own where one can be started.
+//! The senders: each submits its streams, on a thread of its own if one can be started.
 ghost use Rattle.spool_core.specs.Senders.{CanSend, HasSent, HaveSent, lists_in, senders_in};
 ghost use Rattle.spool_queue.specs.Passes.{sender_of};
 ghost use Rattle.std.specs.Prelude.{All, [], length, map, vec_capacity, ◌≡◌, ◌≤◌};
@@ -8,7 +8,7 @@ use spool_queue::{SendPass, Spool, StreamBytes};
 use std::sync::Wait;
 use std::thread::{Threads, join};
 
-/// A sender's pass, and what it is to send.
+/// A sender's pass, and the streams that the sender is to send.
 #[derive(Drop)]
 pub struct Work {
     pub pass: SendPass,
@@ -49,8 +49,8 @@ pub(crate) fn submit_all<R: Wait>(rt: &R, spool: &Spool, work: Work) -> SendPass
     pass
 }
 
-/// Each sender submits all its streams, in a thread of its own where one can be started, and else in the caller's. It
-/// returns when all have.
+/// Each sender submits all its streams, on a thread of its own if one can be started, else on the caller's. Returns
+/// when all senders have submitted.
 #[cycle(senders)]
 pub(crate) fn send_all<R: Threads + Wait + Sync>(
     rt: &R,

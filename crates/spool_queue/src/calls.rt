@@ -12,7 +12,7 @@ use std::sync::Wait;
 use std::thread::yield_now;
 
 impl SendPass {
-    /// The sender, from 1 on in the order in which `make` gave the passes.
+    /// The sender, counted from 1 in the order in which `make` returned the passes.
     pub fn sender(&self) -> u8
         ensures { result ≡ sender_of self.now }
     {
@@ -37,8 +37,8 @@ impl PrintPass {
 }
 
 impl Spool {
-    /// Puts a stream into the queue as the sender's next job, and gives the job's number. While the queue is full it
-    /// tries again, so it may wait for a `take`.
+    /// Puts a stream into the queue as the sender's next job, and returns the job's number. While the queue is full the
+    /// call tries again, so it may wait for a `take`.
     pub fn submit<R: Wait>(&self, rt: &R, pass: &mut SendPass, stream: StreamBytes) -> u32
         requires pass { IsSenderOf self.now pass.old }
         requires few { length (sent_of pass.old) < 2 ^ 31 }
@@ -58,7 +58,8 @@ impl Spool {
         number
     }
 
-    /// Takes a job, its sender's next one. While the queue is empty it tries again, so it may wait for a `submit`.
+    /// Takes a job, its sender's next one. While the queue is empty the call tries again, so it may wait for a
+    /// `submit`.
     pub fn take<R: Wait>(&self, rt: &R, pass: &mut PrintPass) -> SpoolJob
         requires pass { IsPrinterOf self.now pass.old }
         requires few { length (taken_of pass.old) < 2 ^ 31 }

@@ -17,7 +17,7 @@ use std::sync::Wait;
 
 impl Spool {
     /// A spool whose queue has room for `room` jobs, 1 to 65,536, with the passes of 1 to 8 senders, in their order,
-    /// and that of the printer. `Memory` where there is no room for all that the spool ever needs.
+    /// and the printer's pass. Returns `Memory` if there is no memory for all that the spool ever needs.
     pub fn make(
         alloc: Global,
         senders: u8,
@@ -46,8 +46,8 @@ impl Spool {
         Ok((spool, passes, PrintPass { pass, taken: 0 }))
     }
 
-    /// Spends all passes, where the spool is still shared: what was taken is the beginning of what was sent, and all of
-    /// it where as many jobs were taken as sent. It does nothing else.
+    /// Spends all passes while the spool is still shared. The jobs taken are the beginning of the jobs sent, and all of
+    /// them if as many jobs were taken as sent. The call does nothing else.
     pub fn settle(&self, senders: Vec<SendPass>, printer: PrintPass)
         requires { AreAllPasses self.now senders.items printer }
         ensures rest { (rest : List SpoolJob)
@@ -61,7 +61,7 @@ impl Spool {
         self.queue.learn_as::<Drains>(&mut pass);
     }
 
-    /// The jobs that were not taken, those of each sender in its order.
+    /// Returns the jobs that were not taken, the jobs of each sender in its order.
     pub fn finish<R: Wait>(
         self,
         rt: &R,

@@ -31,12 +31,12 @@ impl StreamBytes {
     }
 }
 
-/// A stream to be printed, with who sent it.
+/// A stream to be printed, and its sender.
 #[derive(Drop)]
 pub struct SpoolJob {
     /// The sender: 1 to 8.
     pub sender: u8,
-    /// Which of its sender's jobs it is, from 1 on.
+    /// The number of this job among its sender's jobs, counted from 1.
     pub number: u32,
     pub stream: StreamBytes,
 }

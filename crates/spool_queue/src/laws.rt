@@ -1,4 +1,4 @@
-//! The rule of the spool, and what follows where jobs are those that were sent (`AreSent`): the functions do nothing;
+//! The rule of the spool, and what follows if jobs are those that were sent (`AreSent`). The functions do nothing;
 //! their contracts are the laws.
 ghost use Rattle.crossbeam_queue.specs.Fifo.{Forks, Merges, Pops, Pushes};
 ghost use Rattle.spool_queue.specs.Jobs.{AreSent, Stream, job};
@@ -10,9 +10,9 @@ ghost use Rattle.std.specs.Prelude.{◌++◌, ◌-◌, ◌<◌, ◌≡◌, ◌�
 ghost use lib.ListN.{get_elem?};
 ghost use mathlib.Core.Option.{some};
 
-/// The rule holds of a new queue, and each step of a pass keeps it, whichever pass makes the step: a sender gets its
-/// pass, a sender pushes its next job, the printer takes a job, and the printer is given the pass of a sender that
-/// ends. So the rule holds between any two steps, in every order of the threads.
+/// The rule holds for a new queue, and each step of any pass keeps the rule: a sender gets its pass, a sender pushes
+/// its next job, the printer takes a job, and the printer is given the pass of a sender that ends. So the rule holds
+/// between any two steps, in every order of the threads.
 pub fn each_step_keeps_the_rule()
     ensures first { FollowsRule [] (printer_view 0 [] [] ∷ []) }
     ensures enrols { (pass : ℕ) (v : QueueView) → v.prints ≡ true
@@ -28,14 +28,14 @@ pub fn each_step_keeps_the_rule()
         → Merges FollowsRule pass v other u (printer_view v.senders v.taken (v.ended ++ u.sent ∷ [])) spent_view }
 {}
 
-/// Where the rule holds, the jobs that the printer has taken, and then those in the queue, are what the senders sent.
+/// If the rule holds, the jobs that the printer has taken, and then the jobs in the queue, are what the senders sent.
 pub fn jobs_are_as_sent_between_steps()
     ensures { (items : List SpoolJob) (views : List QueueView) (pass : ℕ) (printer : QueueView)
         → FollowsRule items views → get_elem? views pass ≡ some printer → printer.prints ≡ true
         → IsAsSent items views printer }
 {}
 
-/// A job is the one that its sender sent under its number.
+/// Each job is the one that its sender sent under the job's number.
 pub fn each_job_was_sent()
     ensures { (sent : ℕ → List Stream) (before after : List SpoolJob) (x : SpoolJob)
         → AreSent sent (before ++ x ∷ after)
@@ -49,7 +49,8 @@ pub fn each_stream_is_there()
         → Contains jobs (job s (suc k) (slice_index_or (sent s) k [])) }
 {}
 
-/// Of two jobs of a sender the later one has the greater number: none is there twice, and none before an earlier one.
+/// Of two jobs of a sender the later one has the greater number. So no job is there twice, and none before an earlier
+/// one.
 pub fn jobs_of_a_sender_are_in_order()
     ensures { (sent : ℕ → List Stream) (before between after : List SpoolJob) (x y : SpoolJob)
         → AreSent sent (before ++ x ∷ (between ++ y ∷ after)) → x.sender ≡ y.sender → x.number < y.number }

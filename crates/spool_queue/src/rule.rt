@@ -5,18 +5,18 @@ use std::collections::LinkedList;
 
 /// What a pass knows. Only proofs see such a value; none is made.
 pub struct QueueView {
-    /// It is the one pass of a sender.
+    /// Whether the pass is the one pass of a sender.
     pub sends: bool,
-    /// That sender, and the streams that it has sent.
+    /// The sender of the pass, and the streams that it has sent.
     pub sender: u64,
     pub sent: LinkedList<LinkedList<u8>>,
-    /// It is the one pass that takes.
+    /// Whether the pass is the one pass that takes.
     pub prints: bool,
-    /// The jobs that it has taken.
+    /// The jobs that the pass has taken.
     pub taken: LinkedList<SpoolJob>,
     /// How many senders there are: 1, 2 and so on.
     pub senders: u64,
-    /// What the first of them sent in all, whose passes are spent.
+    /// All that the first of these senders sent, whose passes are spent.
     pub ended: LinkedList<LinkedList<LinkedList<u8>>>,
 }
 
@@ -44,7 +44,7 @@ impl Split<QueueView> for Enrols {
     ghost right = { λ v. sender_view (suc v.senders) [] };
 }
 
-/// The next sender ends: the printer has its pass.
+/// The next sender ends: the printer gets its pass.
 pub struct Ends;
 
 impl Join<QueueView> for Ends {

@@ -9,13 +9,13 @@ pub enum SpoolCause {
     UnknownKey,
     /// The key was given before.
     RepeatedKey,
-    /// The key does not take the value, or there are as many senders as there may be.
+    /// The key does not take the value, or there already are as many senders as there may be.
     BadValue,
     /// No word gives a sender.
     NoSend,
 }
 
-/// The first refused word, counted from 1, and why. `NoSend` stands at the number after the last word.
+/// The first refused word, counted from 1, and why. `NoSend` has the number after the last word.
 #[derive(Clone, Copy, Debug, PartialEq, Eq)]
 pub struct SpoolFault {
     pub word: u32,

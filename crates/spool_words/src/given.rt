@@ -30,7 +30,7 @@ pub fn count_before(place: u32, words: &Words, key: KeyName) -> u32
     count
 }
 
-/// The number of the first word that gives the profile, counted from 1; 0 where none does.
+/// The number of the first word that gives the profile, counted from 1; 0 if none does.
 pub fn profile_word(words: &Words) -> u32
     ensures { result ≡ unwrap_or (given_profile_word words.now) 0 }
 {

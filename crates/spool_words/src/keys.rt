@@ -59,7 +59,7 @@ impl KeyName {
         }
     }
 
-    /// Why one word more than may give the key is refused.
+    /// The cause for which a word is refused that gives the key once too often.
     pub fn excess(self) -> SpoolCause
         ensures { result ≡ (key_row self).excess }
     {

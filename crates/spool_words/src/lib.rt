@@ -1,13 +1,14 @@
 //! What the words of the spool ask for: a profile, a kernel, grain, workers, and for each sender the names of its
 //! files.
 //!
-//! `read_spool_words` gives exactly the meaning of the words: their request, or the first refused word and the cause.
-//! `profile_name` gives the value of the word `profile=..`, or the name of the built-in profile. `name_count` and
-//! `name` give the names of each sender. None of them takes memory. The keys and the values that they take are the
-//! table of `specs/Keys.antt`; the keys that the spool shares with a command line are those of `job_words`.
+//! `read_spool_words` returns exactly the meaning of the words: their request, or the first refused word and the cause.
+//! `profile_name` returns the value of the word `profile=..`, or the name of the built-in profile. `name_count` and
+//! `name` return the names of each sender. These calls allocate no memory. The table of `specs/Keys.antt` has the keys
+//! and the values that they take; the keys that the spool shares with a command line are those of `job_words`.
 //!
-//! `laws`: a request has a grain of 32 at most, 1 to 64 workers and 1 to 8 senders, and its words list as many senders,
-//! each of 1 to 64 names of 1 to 255 bytes; the name of the profile has as many (`a_request_is_within_bounds`).
+//! By `laws` a request has a grain of 32 at most, 1 to 64 workers and 1 to 8 senders, and its words list as many
+//! senders, each of 1 to 64 names of 1 to 255 bytes. The name of the profile has 1 to 255 bytes too
+//! (`a_request_is_within_bounds`).
 #![tactic(auto)]
 
 pub mod examples;

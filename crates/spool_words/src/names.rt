@@ -46,8 +46,8 @@ pub fn name_count(words: &Words, request: &SpoolRequest, sender: u8) -> u32
     count_names(sent_by(words, sender)) as u32
 }
 
-/// The name of this number that a sender has, of 1 to 255 bytes: any but a comma. Senders and their names are counted
-/// from 1, in the order of the words. The request must be the one that was read from these words.
+/// The name of this number among a sender's names, of 1 to 255 bytes: any but a comma. Senders and their names are
+/// counted from 1, in the order of the words. The request must be the one that was read from these words.
 pub fn name<'a>(words: &'a Words, request: &SpoolRequest, sender: u8, number: u32) -> &'a str
     requires read { spool_meaning words.now ≡ Ok request.now }
     requires some_sender { 1 ≤ sender }

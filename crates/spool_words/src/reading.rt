@@ -16,12 +16,12 @@ use weave_base::Words;
 /// What the words of the spool ask for, besides the names of files.
 #[derive(Clone, Copy, Debug, PartialEq, Eq)]
 pub struct SpoolRequest {
-    /// The number of the word `profile=..`, counted from 1; 0 where no word gives a profile, and the built-in one is
+    /// The number of the word `profile=..`, counted from 1; 0 if no word gives a profile, and the built-in profile is
     /// meant.
     pub profile_word: u32,
     /// The kernel of error diffusion.
     pub kernel: Kernel,
-    /// How much grain is put on amounts: 0 to 32.
+    /// How much grain is applied to amounts: 0 to 32.
     pub grain: u8,
     /// How many workers: 1 to 64.
     pub workers: u8,
@@ -82,10 +82,10 @@ fn request_given(words: &Words, senders: u8) -> SpoolRequest
     }
 }
 
-/// Reads the words of the spool, which are `key=value` in any order, and are counted from 1. The keys are `profile`,
-/// `kernel`, `grain` and `workers`, each once at most, and `send` for each sender, up to eight times. The answer is the
-/// request, or the first refused word with its first cause in the order of `SpoolCause`; where no word is refused and
-/// none gives a sender, `NoSend` at the number after the last word.
+/// Reads the words of the spool. The words are `key=value` in any order, and are counted from 1. The keys are
+/// `profile`, `kernel`, `grain` and `workers`, each once at most, and `send` for each sender, up to eight times.
+/// Returns the request, or the first refused word with its first cause in the order of `SpoolCause`. If no word is
+/// refused and none gives a sender, returns `NoSend` at the number after the last word.
 pub fn read_spool_words(words: &Words) -> Result<SpoolRequest, SpoolFault>
     ensures { result ≡ spool_meaning words.now }
 {
@@ -100,8 +100,8 @@ pub fn read_spool_words(words: &Words) -> Result<SpoolRequest, SpoolFault>
     Ok(request_given(words, senders as u8))
 }
 
-/// The name of the profile, of 1 to 255 bytes: `p360cmyk`, which is built in, where no word gives one. The request must
-/// be the one that was read from these words.
+/// The name of the profile, of 1 to 255 bytes. If no word gives a profile, the name is `p360cmyk`, a built-in profile.
+/// The request must be the one that was read from these words.
 pub fn profile_name<'a>(words: &'a Words, request: &SpoolRequest) -> &'a str
     requires { spool_meaning words.now ≡ Ok request.now }
     ensures { result.now ≡ profile_named words.now }

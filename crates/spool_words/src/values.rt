@@ -41,7 +41,7 @@ pub fn kernel_named(text: &str) -> Option<Kernel>
     job_words::kernel_named(text)
 }
 
-/// How much grain is put on amounts: 0 to 32.
+/// How much grain is applied to amounts: 0 to 32.
 pub fn grain_value(text: &str) -> Option<u8>
     ensures { result ≡ grain_of text.now }
 {

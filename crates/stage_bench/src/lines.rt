@@ -67,7 +67,8 @@ impl Lines {
     }
 }
 
-/// Separates a line 64 pixels at a time, as a whole tile takes its rows. Skips it unless it has the window's pixels.
+/// Separates a line 64 pixels at a time, as a whole tile takes its rows. Skips the line unless it has the window's
+/// pixels.
 pub fn separate(separator: &Separator, line: &[u8], amounts: &mut TileAmounts) {
     let left = separator.window().left as usize;
     let width = separator.window().width as usize;

@@ -7,11 +7,11 @@
 //! of dots.
 //!
 //! `slab-team` diffuses a slab of 2976 by 256 pseudo-random amounts in the profile's inks by this many workers, and
-//! prints the fewest nanoseconds of twenty runs; `slab-plain` does so by the plain program. `separate-gray`,
+//! prints the fewest nanoseconds of twenty runs; `slab-plain` does the same by the plain program. `separate-gray`,
 //! `separate-black`, `separate-rgb`, `separate-black1` and `separate-cmyk` separate 256 lines of 2886 pseudo-random
-//! pixels of that kind, and print the fewest nanoseconds of a hundred runs. They read no page.
+//! pixels of that kind, and print the fewest nanoseconds of a hundred runs. These stages read no page.
 //!
-//! Nothing is proved of it but safety. Its stored run counts the dots of a small page.
+//! Only its safety is proved. Its stored run counts the dots of a small page.
 #![tactic(auto)]
 
 mod lines;

@@ -28,7 +28,7 @@ const LINES: u32 = 256;
 // How many runs there are; the least time counts.
 const RUNS: u32 = 100;
 
-/// The kind of pixel of a name, that of `bench/make_page.py`.
+/// The kind of pixel that `bench/make_page.py` gives this name.
 pub fn kind_named(name: &str) -> Option<Kind> {
     match name {
         "separate-gray" => Some(Kind::Gray8),
@@ -40,8 +40,8 @@ pub fn kind_named(name: &str) -> Option<Kind> {
     }
 }
 
-/// The fewest nanoseconds that 256 lines of pseudo-random bytes took to separate. `None` where there is no memory for
-/// them, or no clock.
+/// The fewest nanoseconds that 256 lines of pseudo-random bytes took to separate. `None` if there is no memory for the
+/// lines, or no clock.
 pub fn time_separation(rt: &HostRuntime, profile: &Profile, kind: Kind) -> Option<u128>
     requires { IsOk (check profile.now) }
 {

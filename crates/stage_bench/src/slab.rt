@@ -21,8 +21,8 @@ const ROWS: u32 = 256;
 // How often the slab is diffused; the least time counts.
 const RUNS: u32 = 20;
 
-/// The fewest nanoseconds that a slab of this many inks took these workers. `None` where there is no memory for it, or
-/// no clock.
+/// The fewest nanoseconds that a slab of this many inks took these workers. `None` if there is no memory for the slab,
+/// or no clock.
 pub fn time_slab<R: Threads + Sync>(
     rt: &HostRuntime,
     threads: &R,

@@ -20,7 +20,7 @@ use worker_team::{OpenGate, Team};
 pub enum PageStage {
     /// Its lines are read.
     Read,
-    /// Its inks are separated, too.
+    /// Its inks are also separated.
     Separate,
     /// It is halftoned, as the driver does it.
     Slabs,
@@ -36,8 +36,8 @@ pub fn stage_named(name: &str) -> Option<PageStage> {
     }
 }
 
-/// Takes the first page of the input as far as a stage, and counts its lines, or its dots where it is halftoned.
-/// This many workers diffuse its slabs. The count is 0 where the stream has no page.
+/// Takes the first page of the input as far as a stage, and counts the page's lines, or its dots if it is halftoned.
+/// `workers` workers diffuse its slabs. The count is 0 if the stream has no page.
 pub fn run_stage<R: Threads + Sync, S: Source>(
     rt: &R,
     alloc: Global,

@@ -33,8 +33,8 @@ impl Pass {
 
 impl<'a, A: TileRows> Board<'a, A> {
     /// Claims a tile for a pass that holds none. `Got` hands the tile out with the edges of row-by-row diffusion: the
-    /// pass holds the tile then, and had not posted it. `NotReady` and `Gone` carry the tile's word as it was found.
-    /// That no other pass holds or has posted a tile that one holds is the rule of `board_steps`.
+    /// pass then holds the tile, and had not posted it. `NotReady` and `Gone` carry the tile's word as it was found. By
+    /// the rule of `board_steps` no other pass holds or has posted a tile that a pass holds.
     pub fn claim(&self, p: &mut Pass, t: Place) -> Claim
         requires pass { IsPassOf self.now p.old }
         requires idle { (view p.old).held ≡ None }
@@ -69,7 +69,7 @@ impl<'a, A: TileRows> Board<'a, A> {
         self.work_in(task, &mut TileRoom::make())
     }
 
-    /// Diffuses a tile as `work` does, in room that it is lent.
+    /// Diffuses a tile as `work` does, in room that the caller lends.
     pub fn work_in(&self, task: Task, room: &mut TileRoom) -> Done
         requires { IsTaskOf (slab self.now) task }
         ensures place { result.place ≡ task.place }
@@ -78,9 +78,9 @@ impl<'a, A: TileRows> Board<'a, A> {
         work_in(task, self.rows, self.kernel, room)
     }
 
-    /// Takes back what the tile that a pass holds gives: sends its edges to the tiles that receive them, and keeps its
-    /// dots. The pass holds no tile then, and its list has this one just once, with the pass's number, also where the
-    /// pass has joined another since it claimed the tile.
+    /// Takes back the tile that a pass holds: sends its edges to the tiles that receive them, and keeps its dots. The
+    /// pass then holds no tile, and its list has this one just once, with the pass's number, also if the pass has
+    /// joined another since it claimed the tile.
     pub fn post(&self, p: &mut Pass, d: Done)
         requires pass { IsPassOf self.now p.old }
         requires held { holding p.old ≡ Some d.place }
@@ -107,7 +107,7 @@ impl<'a, A: TileRows> Board<'a, A> {
         p.held = None;
     }
 
-    /// Cuts a pass of one part off the first pass. It holds nothing.
+    /// Cuts a pass of one part off the first pass. The new pass holds nothing.
     pub fn split(&self, p: &mut Pass) -> Pass
         requires pass { IsPassOf self.now p.old }
         requires first { (view p.old).number ≡ 0 }
@@ -126,8 +126,8 @@ impl<'a, A: TileRows> Board<'a, A> {
         }
     }
 
-    /// Joins pass `q`, which holds nothing, to pass `p`, which then has its parts and the tiles that it posted. `p` may
-    /// hold a tile, and goes on holding it.
+    /// Joins pass `q`, which holds nothing, to pass `p`. Pass `p` then also has the parts of `q` and the tiles that `q`
+    /// posted. `p` may hold a tile, and goes on holding it.
     pub fn join(&self, p: &mut Pass, q: Pass)
         requires passes { IsPassOf self.now p.old × IsPassOf self.now q }
         requires idle { (view q).held ≡ None }

@@ -1,4 +1,4 @@
-//! The slots of a closed board are emptied, tile by tile.
+//! Empties the slots of a closed board, tile by tile.
 ghost use Rattle.std.specs.Prelude.{[], length, vec_capacity, ◌*◌, ◌+◌, ◌<◌, ◌^◌, ◌≡◌, ◌≤◌};
 ghost use Rattle.std.specs.Slots.{slots_filled, slots_items, slots_len};
 ghost use Rattle.std.specs.Slots.Ownership.{Filled};

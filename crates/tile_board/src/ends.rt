@@ -23,9 +23,9 @@ use tile_border::{BottomEdge, CornerEdge, RightEdge, TopEdges};
 use tile_shape::Shape;
 
 impl<'a, A: TileRows> Board<'a, A> {
-    /// A board of rows of amounts, which are diffused below `top`, and its first pass, which has 256 parts. The top
-    /// has a bottom edge for each column of tiles, in the inks of the rows. The memory of spare dots, of any tiles, is
-    /// used again. `Memory` where there is no room for all that the board ever needs.
+    /// A board of rows of amounts, which are diffused below `top`, and its first pass, which has 256 parts. The top has
+    /// a bottom edge for each column of tiles, in the inks of the rows. The memory of spare dots, of any tiles, is used
+    /// again. Fails with `Memory` if there is no room for all that the board ever needs.
     pub fn make(
         alloc: Global,
         rows: &'a A,
@@ -72,7 +72,7 @@ impl<'a, A: TileRows> Board<'a, A> {
         Ok((board, pass))
     }
 
-    /// The dots of all tiles, by band and then column, and the top of the rows below. The pass has posted every tile.
+    /// The dots of all tiles, by band and then column, and the top of the rows below. `p` must have posted every tile.
     pub fn close(self, p: Pass) -> Closed
         requires pass { IsPassOf self p }
         requires all { (t : Place) → IsTile (shape_of (slab self)) t

@@ -1,4 +1,4 @@
-//! What a tile gives goes into its slots.
+//! Puts what a tile gives into its slots.
 ghost use Rattle.atomic_table.specs.Table.{rest};
 ghost use Rattle.board_steps.specs.Rule.{has, setting_of};
 ghost use Rattle.board_steps.specs.Steps.{index_of};
@@ -16,8 +16,8 @@ use dot_planes::TileRows;
 use tile_shape::{Dir, Place};
 
 impl<'a, A: TileRows> Board<'a, A> {
-    /// Puts an edge into its slot, the first that the seat has. Where a tile receives the edge it is sent, and else the
-    /// slot is moved after the others.
+    /// Puts an edge into its slot, the first that the seat has. If a tile receives the edge, the edge is sent.
+    /// Otherwise the slot is moved after the others.
     pub(crate) fn give(&self, seat: &mut Seated, t: Place, dir: Dir, edge: Cell)
         requires table { seat.old.table_id ≡ self.now.table.shared.table_id }
         requires tile { IsTile (shape_of (slab self.now)) t }

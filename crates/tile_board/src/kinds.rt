@@ -1,4 +1,4 @@
-//! A board, its passes, and what the calls answer.
+//! A board, its passes, and the results of the calls.
 ghost use Rattle.std.specs.Prelude.{[], ℕ, length, slice_index_or, vec_capacity, ◌*◌, ◌<◌, ◌≡◌, ◌≤◌};
 ghost use Rattle.std.specs.Option.{ForSome};
 ghost use Rattle.tile_board.specs.Hand.{hand_of, held_number};
@@ -45,7 +45,7 @@ pub struct Pass {
     ghost unsent: { seat.me.0.sent ≡ [] },
 }
 
-/// The answer to a claim of a tile.
+/// The result of a claim of a tile.
 #[derive(Drop)]
 pub enum Claim {
     /// The tile is the caller's to work and to post.

@@ -1,4 +1,4 @@
-//! The edges that a tile is handed are taken out of the slots that the seat got with it.
+//! Takes the edges that a tile is handed out of the slots that the seat got with the tile.
 ghost use Rattle.board_steps.specs.Rule.{setting_of};
 ghost use Rattle.board_steps.specs.Steps.{emptied_hand, in_hand};
 ghost use Rattle.std.specs.Prelude.{length, ◌<◌, ◌^◌, ◌≡◌};

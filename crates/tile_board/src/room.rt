@@ -86,8 +86,8 @@ fn dots_of(cell: Cell) -> TileBits
     }
 }
 
-/// The values of a tile's own slots while it waited: for each edge that no tile sends it a blank, else `Cell::Empty`,
-/// and dots with none set.
+/// The values of a tile's own slots while the tile waited: a blank for each edge that no tile sends to it, else
+/// `Cell::Empty`, and dots with none set.
 #[derive(Drop)]
 pub(crate) struct Blanks {
     pub(crate) right: Cell,

@@ -18,7 +18,7 @@ ghost use Rattle.tile_lanes.specs.Done.{window_of};
 ghost use Rattle.tile_shape.specs.Geometry.{IsShape, IsTile, columns_of};
 ghost use Rattle.tile_shape.specs.declared.tiles.Place.{Place};
 
-/// Where each tile is handed the edges that the tiles before it gave, what the tiles give is a record.
+/// If each tile is handed the edges that the tiles before it gave, what the tiles give is a record.
 pub fn what_work_gives_is_a_record()
     ensures { (k : Kernel) (rows : AmountTable) (top : List (List (List ℤ))) (errors : ℕ → Errors) (core : CoreState)
         (handed given : Place → Border) → AreErrors k rows top errors → AreWorked k rows top core handed given
@@ -41,7 +41,7 @@ pub fn any_order()
     what_work_gives_is_a_record();
 }
 
-/// The edges and the dots that `given` says are right, and there is one list of each for each ink.
+/// The edges and the dots of `given` are right, and there is one list of each for each ink.
 pub fn what_is_given_is_right()
     ensures inks { (k : Kernel) (rows : AmountTable) (top : List (List (List ℤ))) (p : Place)
         → HasInks rows.inks (given k rows top p) }
@@ -49,13 +49,13 @@ pub fn what_is_given_is_right()
         → AreDone k rows top p (given k rows top p) }
 {}
 
-/// Edges and dots that are right, of full length and in each ink, are those that `given` says.
+/// Edges and dots that are right, of full length and in each ink, are those of `given`.
 pub fn what_is_right_is_given()
     ensures { (k : Kernel) (rows : AmountTable) (top : List (List (List ℤ))) (p : Place) (b : Border)
         → HasInks rows.inks b → IsWhole b → AreDone k rows top p b → b ≡ given k rows top p }
 {}
 
-/// Where the tiles that send a tile its edges gave what `given` says, the edges that it is handed are right.
+/// If the tiles that send a tile its edges gave those of `given`, the edges that the tile is handed are right.
 pub fn what_is_handed_is_right()
     ensures { (k : Kernel) (rows : AmountTable) (top : List (List (List ℤ))) (p : Place) (b : Border)
         → IsTile (window_of rows) p → AreHanded k rows top p b → AreReady k rows top p b }
@@ -63,13 +63,13 @@ pub fn what_is_handed_is_right()
     tile_edges::handed::what_is_handed_is_right();
 }
 
-/// What `work` makes of right edges is right.
+/// From right edges `work` makes right edges and dots.
 pub fn what_work_gives_is_right()
     ensures { (k : Kernel) (rows : AmountTable) (top : List (List (List ℤ))) (p : Place) (old new : Border)
         → ((i : ℕ) → i < rows.inks → Works k rows p i old new) → AreReady k rows top p old → AreDone k rows top p new }
 {}
 
-/// The bottom edges that `given` says of a band's tiles are the errors of its rows 30 and 31.
+/// The bottom edges of `given` for a band's tiles are the errors of the band's rows 30 and 31.
 pub fn bottoms_are_given()
     ensures { (k : Kernel) (rows : AmountTable) (top : List (List (List ℤ))) (j i : ℕ) → i < rows.inks
         → AreBottoms (window_of rows) (errors_below k rows top i) j

@@ -43,7 +43,7 @@ pub fn work<A: TileRows>(task: Task, rows: &A, kernel: Kernel) -> Done
     work_in(task, rows, kernel, &mut TileRoom::make())
 }
 
-/// Diffuses a tile as `work` does, in room that it is lent.
+/// Diffuses a tile as `work` does, in room that the caller lends.
 pub fn work_in<A: TileRows>(task: Task, rows: &A, kernel: Kernel, room: &mut TileRoom) -> Done
     requires tile { IsTile (window_of (A.table rows.now)) task.place }
     requires inks { HasInks (A.table rows.now).inks (handed task) }

@@ -7,7 +7,7 @@ ghost use Rattle.tile_shape.specs.declared.tiles.Dir.{Dir};
 ghost use Rattle.tile_shape.specs.declared.tiles.Place.{Place};
 ghost use Rattle.tile_shape.specs.declared.tiles.Shape.{Shape};
 
-/// The error of a pixel is at its row and offset of its tile, and a place without a pixel has the error 0.
+/// The error of a pixel is at the pixel's row and offset in its tile. A place without a pixel has the error 0.
 pub fn each_place_has_its_error()
     ensures pixel { (e : Errors) (p : Place) (row offset x y : ℕ) → IsAt p row offset x y
         → skewed e p.j (row + 2) (64 * p.c + offset + 6) ≡ e (y + 2) (x + 4) }
@@ -17,7 +17,7 @@ pub fn each_place_has_its_error()
         → skewed e p.j (row + 2) (64 * p.c + offset + 6) ≡ pos 0 }
 {}
 
-/// An edge has the errors of its tile from its first row and its first offset on, row by row.
+/// An edge has the errors of its tile, row by row, from the edge's first row and first offset on.
 pub fn an_edge_has_its_rows_and_offsets()
     ensures { (e : Errors) (d : Dir) (p : Place) (xs : List ℤ) → (IsGiven e d p xs ↔ ((row offset : ℕ)
         → first_row d ≤ row → row < 32 → first_offset d ≤ offset → offset < 64
@@ -25,7 +25,7 @@ pub fn an_edge_has_its_rows_and_offsets()
         ≡ skewed e p.j (row + 2) (64 * p.c + offset + 6))) }
 {}
 
-/// What a tile hands on is what the receiver is handed.
+/// The edge that a tile hands on is the edge that the receiver is handed.
 pub fn an_edge_given_is_an_edge_taken()
     ensures { (e : Errors) (d : Dir) (from to : Place) (xs : List ℤ) → IsReceiver d from to
         → (IsGiven e d from xs ↔ IsTaken e d to xs) }

@@ -9,7 +9,7 @@ ghost use Rattle.tile_shape.specs.declared.tiles.Dir.{Dir};
 ghost use Rattle.tile_shape.specs.declared.tiles.Place.{Place};
 ghost use Rattle.tile_shape.specs.declared.tiles.Shape.{Shape};
 
-/// Where the edges that the tiles before it gave are right, so is what a tile is handed.
+/// If the edges that the tiles before it gave are right, the edges that a tile is handed are right.
 pub fn what_is_handed_is_right()
     ensures { (k : Table) (plane : Plane) (e : Errors) (s : Shape) (top : List (List ℤ)) (edges : Dir → Place → List ℤ)
         (d : Dir) (to : Place) (xs : List ℤ)

@@ -1,4 +1,4 @@
-//! The errors that a pixel reads, and that its tile has each of them.
+//! The errors that a pixel reads. Its tile has each of them at hand.
 ghost use Rattle.std.specs.Prelude.{List, length, ℕ, ℤ, ◌+◌, ◌≡◌, ◌≤◌, ◌↔◌};
 ghost use Rattle.diffusion_definitions.specs.Diffusion.{Errors, Plane, Table, value_at};
 ghost use Rattle.tile_edges.specs.Edges.{IsAbove, IsCorner, IsLeft};
@@ -11,15 +11,15 @@ pub fn pixels_are_read_at_their_places()
     ensures { (x y a b : ℕ) → (Reads x y a b ↔ ReadsAt x y (b + 2) (a + 4)) }
 {}
 
-/// Each share above 0 of a table, whose rows are no longer than those of a printed one, gives an error at a place that
-/// is read. A table with all twelve shares above 0 has one for each such place.
+/// If the rows of a table are no longer than those of a printed one, each share above 0 gives an error at a place that
+/// is read. A table with all twelve shares above 0 has a share for each such place.
 pub fn each_share_gives_an_error_that_is_read()
     ensures read { (k : Table) (x y m n : ℕ) → length k.right ≤ 2 → length k.below ≤ 5 → length k.below2 ≤ 5
         → GivesTo k x y m n → ReadsAt x y m n }
     ensures given { (k : Table) (x y m n : ℕ) → HasAllShares k → ReadsAt x y m n → GivesTo k x y m n }
 {}
 
-/// What a pixel has to show depends only on errors that give to it by a share above 0.
+/// The value of a pixel depends only on errors that give to the pixel by a share above 0.
 pub fn no_other_error_counts()
     ensures { (k : Table) (p : Plane) (e f : Errors) (x y : ℕ)
         → length k.right ≤ 2 → length k.below ≤ 5 → length k.below2 ≤ 5

@@ -5,8 +5,8 @@ ghost use Rattle.tile_edges.specs.Edges.{IsAbove, IsCorner, IsPlaneOf};
 ghost use Rattle.tile_edges.specs.Tops.{AreBottoms, IsBelow, IsCut, top_of};
 ghost use Rattle.tile_shape.specs.declared.tiles.Shape.{Shape};
 
-/// The edges of the first band come from the top: above tile c is its edge c + 1, and at the corner the end of its
-/// edge c.
+/// The edges of the first band come from the top: above tile c is edge c + 1 of the top, and at the corner the end of
+/// edge c of the top.
 pub fn the_first_band_has_the_edges_of_the_top()
     ensures above { (e : Errors) (edges : List (List ℤ)) (c : ℕ) → IsBelow edges e
         → IsAbove e (record { c = c; j = 0 }) (slice_index_or edges (c + 1) []) }
@@ -14,7 +14,7 @@ pub fn the_first_band_has_the_edges_of_the_top()
         → IsCut (slice_index_or edges c []) xs → IsCorner e (record { c = c; j = 0 }) xs }
 {}
 
-/// Where the top has no edge, the first band is handed zeros.
+/// If the top has no edge, the first band is handed zeros.
 pub fn an_edge_that_the_top_has_not_is_zero()
     ensures above { (e : Errors) (edges : List (List ℤ)) (c : ℕ) → IsBelow edges e
         → slice_index_or edges (c + 1) [] ≡ []
@@ -34,8 +34,8 @@ pub fn the_bottom_edges_are_the_top_of_the_rest()
         → Solves k p e → IsPlaneOf s p → AreBottoms s e j edges → IsBelow edges (λ t. e (32 * (j + 1) + t)) }
 {}
 
-/// So the rows below a band are diffused as a plane of their own, below the bottom edges of the band: its errors and
-/// its dots are those of the whole plane.
+/// So the rows below a band are diffused as a plane of their own, below the bottom edges of the band. The errors and
+/// dots of this plane are those of the whole plane.
 pub fn a_slab_is_diffused_below_bottom_edges()
     ensures errors { (k : Table) (p : Plane) (top : Errors) (s : Shape) (edges : List (List ℤ)) (j : ℕ)
         → IsPlaneOf s p → AreBottoms s (errors k p top) j edges

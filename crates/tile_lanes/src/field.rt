@@ -1,8 +1,8 @@
 //! Room for a tile while it is diffused.
 ghost use Rattle.tile_lanes.specs.Held.{HeldInRange};
 
-/// Room for one ink of a tile while it is diffused: for its errors, 103 groups of 34, and for its amounts by steps. Who
-/// diffuses many tiles keeps one for all of them, so that it is cleared once.
+/// Room for one ink of a tile while it is diffused: for its errors, 103 groups of 34, and for its amounts by steps. A
+/// caller that diffuses many tiles keeps one field for all of them, so that it is cleared once.
 #[derive(Drop)]
 pub struct Field {
     // Errors with 2040 added.

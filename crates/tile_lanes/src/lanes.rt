@@ -1,6 +1,6 @@
 //! A tile with its rows in step. A field is groups of 34 errors, one of each row, the two above the tile first. A pixel
-//! reads only errors of earlier groups, so the pixels of one group are diffused in one step. Where the kernel allows it
-//! all rows are at one offset; else each is one behind the row above it.
+//! reads only errors of earlier groups, so the pixels of one group are diffused in one step. If the kernel allows it,
+//! all rows are at one offset. Otherwise each row is one offset behind the row above it.
 
 ghost use Rattle.diffusion_definitions.specs.Diffusion.{EachInRange, Errors};
 ghost use Rattle.diffusion_kernel.specs.Tables.{table_of};

@@ -11,16 +11,15 @@ use crate::lanes::diffuse_lanes;
 use diffusion_kernel::Kernel;
 use tile_shape::{Place, Shape};
 
-/// Diffuses one ink of a tile of a window from its amounts, 64 of each of its 32 rows; where the window has no pixel an
-/// amount means nothing. Each array of errors, from -2040 to 2039, holds an edge that the tile is handed, and
-/// after the call the one that it hands on:
+/// Diffuses one ink of a tile of a window from its amounts, 64 of each of its 32 rows. If the window has no pixel at a
+/// place, the amount there means nothing. Each array of errors, from -2040 to 2039, holds an edge that the tile is
+/// handed, and after the call the edge that it hands on:
 ///
 /// - `side`: 32 rows of six errors, before the call the left edge, after it the right one;
 /// - `bottom`: two rows of 64, before the call the bottom edge from above, after it the tile's own;
 /// - `corner`: two rows of six, before the call those left of `bottom`, after it the last six of `bottom`.
 ///
-/// `dots` becomes 32 rows of 64 dots, eight a byte, the first in the highest bit; where the window has no pixel there
-/// is no dot.
+/// `dots` becomes 32 rows of 64 dots, eight a byte, the first in the highest bit. A place without a pixel has no dot.
 ///
 /// `field` is room, of any content.
 pub fn diffuse_tile(

@@ -14,7 +14,7 @@ pub fn each_error_is_at_hand()
         → IsIn s p a b ⊎ ((d : Dir) × ComesBy s d p a b) }
 {}
 
-/// A tile needs an edge exactly where the window has the tile that the edge comes from.
+/// A tile needs an edge exactly if the window has the tile that the edge comes from.
 pub fn an_edge_is_needed_where_it_is_given()
     ensures { (s : Shape) (d : Dir) (p : Place) → IsTile s p
         → (IsNeeded s d p ↔ ((from : Place) × (IsTile s from × IsReceiver d from p))) }
@@ -31,7 +31,7 @@ pub fn an_edge_goes_on()
     ensures { (d : Dir) (from to : Place) → IsReceiver d from to → from.c + 2 * from.j < to.c + 2 * to.j }
 {}
 
-/// The last band of a window has a pixel, and so has the last column where the first band is whole.
+/// The last band of a window has a pixel, and so has the last column if the first band is whole.
 pub fn no_column_or_band_is_spare()
     ensures band { (s : Shape) → IsShape s
         → IsIn s (record { c = 0; j = bands_of s - 1 }) 0 (s.height - 1) }

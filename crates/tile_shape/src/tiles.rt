@@ -86,7 +86,7 @@ impl Shape {
             && 32 * p.j as usize + 32 <= self.height as usize
     }
 
-    /// The edges that a tile needs: those whose `next` it is.
+    /// The edges that a tile needs: those whose `next` is this tile.
     pub fn needs(&self, p: Place) -> Needs
         requires shape { IsShape self.now }
         requires tile { IsTile self.now p }
@@ -101,7 +101,7 @@ impl Shape {
         }
     }
 
-    /// The tile that receives an edge of tile p, or `None` where the window has no such tile.
+    /// The tile that receives an edge of tile p, or `None` if the window has no such tile.
     pub fn next(&self, p: Place, d: Dir) -> Option<Place>
         requires shape { IsShape self.now }
         requires tile { IsTile self.now p }

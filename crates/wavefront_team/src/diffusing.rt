@@ -27,9 +27,9 @@ use tile_border::TopEdges;
 use tile_shape::Shape;
 use worker_team::{Gate, Team, run_beside};
 
-/// Diffuses a slab below its top by a team's workers, and puts its dots into the planes from row `at` on. The answer is
-/// the bottom edges of its last band: the top of the rows below it, where its rows are whole bands of 32. That more
-/// than one thread works, and that each tile enters the gate just once, is tested.
+/// Diffuses a slab below its top by a team's workers, and puts its dots into the planes from row `at` on. Returns the
+/// bottom edges of the slab's last band: the top of the rows below the slab, if its rows are whole bands of 32. Tests
+/// show that more than one thread works, and that each tile enters the gate just once.
 ///
 /// On `Memory` the planes are unchanged.
 pub fn diffuse<R: Threads + Sync, G: Gate + Sync, A: TileRows + Sync>(
@@ -56,9 +56,9 @@ pub fn diffuse<R: Threads + Sync, G: Gate + Sync, A: TileRows + Sync>(
     Ok(closed.bottom)
 }
 
-/// Diffuses a slab as `diffuse` does, and does the errand once, on the caller's own thread. Its answer stands beside
-/// the bottom edges. When the errand is done, and whether tiles of the slab are left waiting in `out`, is not promised:
-/// contracts see the dots of tiles that wait as those of the planes.
+/// Diffuses a slab as `diffuse` does, and runs the errand once, on the caller's own thread. Returns the bottom edges
+/// and the errand's result. When the errand runs, and whether tiles of the slab are left waiting in `out`, is not
+/// promised. Contracts see the dots of waiting tiles as dots of the planes.
 ///
 /// On `Memory` the dots are unchanged and the errand is not begun.
 pub fn diffuse_beside<R: Threads + Sync, G: Gate + Sync, A: TileRows + Sync, F: FnMut() -> E, E>(

@@ -1,4 +1,4 @@
-//! The dots of a slab's tiles are put into the planes.
+//! Puts the dots of a slab's tiles into the planes.
 ghost use Rattle.std.specs.Prelude.{length, ◌+◌, ◌≡◌, ◌≤◌};
 ghost use Rattle.tile_shape.specs.Geometry.{IsShape};
 ghost use Rattle.wavefront_team.specs.Dots.{dots_of};

@@ -17,7 +17,7 @@ pub(crate) trait Lends {
     /// The board.
     ghost desk: { Self → Desk };
 
-    /// Lets a worker work tiles until all are gone, or it has claimed long in vain.
+    /// Lets a worker work tiles until all are gone, or until it gives up after many claims in vain.
     fn run(&self, worker: &mut Worker)
         requires { IsWorkerOf (desk self.now) worker.old.pass }
         ensures { IsWorkerOf (desk self.now) worker.new.pass };

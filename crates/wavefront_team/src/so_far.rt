@@ -61,7 +61,7 @@ impl DotsSoFar {
         }
     }
 
-    /// The planes, once a slab that waits is laid into them.
+    /// The planes, after a waiting slab is laid into them.
     pub fn finish(self) -> Planes
         ensures size { HasSizeOf self.planes result }
         ensures dots { (i y x : ℕ) → i < result.inks → y < result.rows → x < result.width
@@ -86,7 +86,7 @@ impl DotsSoFar {
         }
     }
 
-    /// Takes the dots out whose memory may be used again.
+    /// Takes out the dots whose memory may be used again.
     pub(crate) fn take_spare(&mut self, alloc: Global) -> Vec<TileDots>
         ensures { self.new ≡ self.old }
     {

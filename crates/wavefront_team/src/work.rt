@@ -13,7 +13,7 @@ use tile_border::{Task, TileRoom};
 use tile_shape::{Place, Shape};
 use worker_team::Gate;
 
-/// Works the tile that a pass holds, once the gate lets it in, and posts it.
+/// Works the tile that a pass holds, after the gate lets the tile in, and posts the tile.
 pub(crate) fn work_held<G: Gate, A: TileRows>(
     board: &Board<'_, A>,
     gate: &G,

@@ -46,7 +46,7 @@ impl Worker {
         })
     }
 
-    /// Works tiles until all are gone, or it has claimed long in vain.
+    /// Works tiles until all are gone, or until it gives up after many claims in vain.
     pub(crate) fn run<G: Gate, A: TileRows>(&mut self, board: &Board<'_, A>, shape: Shape, gate: &G)
         requires worker { IsWorkerOf (desk board.now) self.old.pass }
         requires shape { shape ≡ shape_of (slab board.now) }

@@ -1,4 +1,4 @@
-//! Readers and writers of std as a source and a sink, which say what the reader or the writer says.
+//! Readers and writers of std as a source and a sink. Contracts see what the reader or the writer shows.
 ghost use Rattle.std.specs.Io.KnownBytes.{ReadConsumes, WriteAppends};
 ghost use Rattle.std.specs.Io.{ReadsAtMost, WritesAtMost};
 ghost use Rattle.std.specs.Prelude.{IfOk, if◌then◌else◌, is_ok, length, ◌<◌, ◌≡◌};
@@ -8,10 +8,10 @@ use crate::{Failed, Sink, Source};
 use std::io;
 use std::io::{ErrorKind, Read, Write};
 
-/// How many answers `Interrupted` one read or one write passes over before it fails, so that each call returns.
+/// How often one read or one write may meet `Interrupted` and try again before it fails, so that each call returns.
 pub const MOST_INTERRUPTIONS: u32 = 1_000;
 
-/// A reader of std as a source, without a buffer of its own: what the reader has left, the source has left.
+/// A reader of std as a source, without a buffer of its own. The source has left what the reader has left.
 #[derive(Drop)]
 pub struct StdSource<R: Read> {
     reader: R,
@@ -63,7 +63,7 @@ fn read_again<R: Read>(reader: &mut R, buf: &mut [u8]) -> io::Result<usize>
     reader.read(buf)
 }
 
-/// A writer of std as a sink, without a buffer of its own: what the writer holds, the sink holds.
+/// A writer of std as a sink, without a buffer of its own. The sink holds what the writer holds.
 #[derive(Drop)]
 pub struct StdSink<W: Write> {
     writer: W,

@@ -1,5 +1,5 @@
-//! The answer of a read or a write.
+//! The error of a read or a write.
 
-/// A read or a write failed. The source or the sink that it came from counts its faults.
+/// A read or a write failed. The source or the sink counts its faults.
 #[derive(Clone, Copy, Debug, PartialEq, Eq)]
 pub struct Failed;

@@ -9,8 +9,8 @@ pub(crate) fn is_listed(call: u64, listed: &[u32]) -> bool
     listed.iter().any(|k| u64::from(*k) == call)
 }
 
-/// How many bytes a call moves that could move `most`: call `k`, counted from 1, is bound by entry `(k - 1) mod
-/// bounds.len()`.
+/// How many bytes a call moves if it could move `most`. Entry `(k - 1) mod bounds.len()` bounds call `k`, counted from
+/// 1.
 pub(crate) fn bytes_moved(call: u64, bounds: &[u32], most: usize) -> usize
     requires call { 1 ≤ call }
     requires some { All (λ n. 1 ≤ n) bounds.now }

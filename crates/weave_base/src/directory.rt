@@ -1,4 +1,4 @@
-//! The files of the current folder as a shelf, which does not say what it holds.
+//! The files of the current folder as a shelf, which does not show what it holds.
 ghost use Rattle.std.specs.IoError.{error_kind, raw_os_error};
 ghost use Rattle.std.specs.Prelude.{IfOk, IsTrue, None, ◌↔◌, ◌≡◌};
 ghost use Rattle.weave_base.specs.Shelf.{IsWithin, is_file_name};
@@ -46,8 +46,8 @@ impl<R: Files> Shelf for DirShelf<R> {
 
     ghost faults = { λ s. s };
 
-    /// A name that is empty, `.` or `..` or has a `/` is absent, and so is a file that is not found. `Memory` says that
-    /// the program itself is out of memory. Each other error is a fault, also if the system is out of memory.
+    /// A name that is empty, `.` or `..` or has a `/` is absent, and so is a file that is not found. `Memory` means
+    /// that the program itself is out of memory. Each other error is a fault, also if the system is out of memory.
     fn read_text(&mut self, alloc: Global, name: &str, most: usize) -> Result<Found, ShelfStop>
         ensures within { IfOk result (IsWithin most) }
         ensures found { IfOk result (Finds None name.now most) }

@@ -42,8 +42,8 @@ impl MemShelf {
     ghost use Rattle.std.specs.Prelude.{map, ◌≡◌};
     ghost use Rattle.weave_base.specs.Shelved.{named_text};
 
-    /// A shelf of these files, of which the first of a name counts. Read `k`, counted from 1, fails where `fails` has
-    /// `k`.
+    /// A shelf of these files. If two files have one name, the first counts. Read `k`, counted from 1, fails if `fails`
+    /// has `k`.
     pub fn make(files: Vec<ShelfFile>, fails: Vec<u32>) -> MemShelf
         ensures { result ≡ record {
           files = map named_text files.items;

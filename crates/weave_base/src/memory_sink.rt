@@ -41,9 +41,9 @@ impl Model for MemSink {
 }
 
 impl MemSink {
-    /// An empty sink for `room` bytes. It allocates them here, and a write takes no memory. Write `k`, counted from 1,
-    /// fails where `fails` has `k`, and where the piece is not empty and no room is left. Any other write takes at most
-    /// entry `(k - 1) mod takes.len()` of `takes`, and with no entry as many bytes as there is room for.
+    /// An empty sink for `room` bytes. `make` allocates them, and a write allocates no memory. Write `k`, counted from
+    /// 1, fails if `fails` has `k`, and if the piece is not empty and no room is left. Any other write takes at most
+    /// entry `(k - 1) mod takes.len()` of `takes`, or as many bytes as there is room for if `takes` is empty.
     pub fn make(
         alloc: Global,
         room: usize,

@@ -36,8 +36,8 @@ impl Model for MemSource {
 }
 
 impl MemSource {
-    /// A source of these bytes. Read `k`, counted from 1, fails where `fails` has `k`. Any other read gives at most
-    /// entry `(k - 1) mod pieces.len()` of `pieces`, and with no entry as many bytes as the buffer takes.
+    /// A source of these bytes. Read `k`, counted from 1, fails if `fails` has `k`. Any other read gives at most entry
+    /// `(k - 1) mod pieces.len()` of `pieces`, or as many bytes as the buffer takes if `pieces` is empty.
     pub fn make(bytes: Vec<u8>, pieces: Vec<u32>, fails: Vec<u32>) -> MemSource
         requires { All (λ n. 1 ≤ n) pieces.items }
         ensures { result ≡ record {

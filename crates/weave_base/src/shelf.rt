@@ -12,7 +12,7 @@ pub enum Found {
     TooLong,
 }
 
-/// Why a shelf gives no answer.
+/// Why a read of a shelf fails.
 #[derive(Clone, Copy, Debug, PartialEq, Eq)]
 pub enum ShelfStop {
     /// The shelf failed, and counts its faults.
@@ -26,15 +26,15 @@ pub trait Shelf {
     ghost use Rattle.std.specs.Prelude.{IfOk, List, Option, ℕ, ◌≡◌};
     ghost use Rattle.weave_base.specs.Shelf.{Finds, IsWithin, NamedText, StopHasCause};
 
-    /// The texts, or `None` where the shelf does not say what it holds. Of two of one name the first counts.
+    /// The texts, or `None` if the shelf does not show what it holds. If two texts have one name, the first counts.
     ghost files: { Self → Option (List NamedText) };
 
-    /// How many reads failed. The count never falls, and stays at the last value of 64 bits.
+    /// How many reads failed. The count never falls, and saturates at the greatest value of 64 bits.
     ghost faults: { Self → ℕ };
 
-    /// Gives a copy of the text of this name, where it has at most `most` bytes.
+    /// Returns a copy of the text of this name, if the text has at most `most` bytes.
     ///
-    /// `ShelfStop::Failed` comes only where the count of faults rose. After either stop the shelf may be asked again.
+    /// `ShelfStop::Failed` comes only if the count of faults rose. After either stop the shelf may be asked again.
     fn read_text(&mut self, alloc: Global, name: &str, most: usize) -> Result<Found, ShelfStop>
         ensures within { IfOk result (IsWithin most) }
         ensures found { IfOk result (Finds (files self.old) name.now most) }

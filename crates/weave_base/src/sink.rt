@@ -9,15 +9,15 @@ use crate::Failed;
 
 /// Takes bytes, and appends each piece to those before it.
 pub trait Sink {
-    /// The bytes that were written, or `None` where the sink does not say what it holds.
+    /// The bytes that were written, or `None` if the sink does not show what it holds.
     ghost held: { Self → Option (List ℕ) };
 
-    /// How many writes failed. The count never falls, and stays at the last value of 64 bits.
+    /// How many writes failed. The count never falls, and saturates at the greatest value of 64 bits.
     ghost faults: { Self → ℕ };
 
-    /// Appends a prefix of the piece and gives its length: at least one byte of a piece that is not empty.
+    /// Appends a prefix of the piece and returns its length: at least one byte of a piece that is not empty.
     ///
-    /// `Err` takes no byte, and comes only where the count of faults rose; the sink may be written to again.
+    /// `Err` takes no byte, and comes only if the count of faults rose. The sink may then be written to again.
     fn write(&mut self, piece: &[u8]) -> Result<usize, Failed>
         ensures bound { WritesAtMost result piece.now }
         ensures some { IfOk result (λ n. 0 < length piece.now → 0 < n) }
@@ -25,8 +25,8 @@ pub trait Sink {
         ensures cause { HasCause (faults self.old) (faults self.new) result };
 }
 
-/// Writes the whole piece, by as many writes as the sink needs. The first write that fails ends it, and then the sink
-/// has taken a proper prefix of the piece.
+/// Writes the whole piece, in as many writes as the sink needs. The call ends at the first write that fails; the sink
+/// has then taken a proper prefix of the piece.
 pub fn put_all<K: Sink>(k: &mut K, piece: &[u8]) -> Result<(), Failed>
     ensures ok { OnOk result (Appends (K.held k.old) (K.held k.new) piece.now) }
     ensures part { OnErr result (AppendsPart (K.held k.old) (K.held k.new) piece.now) }

@@ -8,16 +8,16 @@ use crate::Failed;
 
 /// Gives bytes, the first ones first.
 pub trait Source {
-    /// The bytes that are left, or `None` where the source does not say what it holds.
+    /// The bytes that are left, or `None` if the source does not show what it holds.
     ghost left: { Self → Option (List ℕ) };
 
-    /// How many reads failed. The count never falls, and stays at the last value of 64 bits.
+    /// How many reads failed. The count never falls, and saturates at the greatest value of 64 bits.
     ghost faults: { Self → ℕ };
 
-    /// Reads the next bytes into the beginning of `buf` and gives their number. What `buf` has after them is left open.
+    /// Reads the next bytes into the beginning of `buf` and returns their number. The rest of `buf` is unspecified.
     ///
-    /// A buffer that is not empty gets no byte only at the end. `Err` takes no byte, and comes only where the count
-    /// of faults rose; the source may be read again.
+    /// If `buf` is not empty, the number is 0 only at the end. `Err` takes no byte, and comes only if the count of
+    /// faults rose. The source may then be read again.
     fn read(&mut self, buf: &mut [u8]) -> Result<usize, Failed>
         ensures bound { ReadsAtMost result buf.new }
         ensures bytes { ReadConsumes (left self.old) (left self.new) result buf.new }

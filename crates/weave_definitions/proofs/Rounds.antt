@@ -1,4 +1,4 @@
--- Where two numbers have no common divisor but 1, one of them has an inverse modulo the other.
+-- Where two numbers are coprime, one of them has an inverse modulo the other.
 use Rattle.std.proofs.Common.{◌≡◌, ℕ, zero, suc, ◌+◌, ◌-◌, ◌*◌, ◌%◌, ◌<◌, ◌≤◌, inl, inr, ◌∙◌, ap, arith, subst}
 use Rattle.std.proofs.Math.Nat.{one-dvd, dvd-add, add-mul-mod_self_right}
 use Rattle.std.proofs.lemmas.Bool.{cases_lt}

@@ -1,10 +1,11 @@
-//! Interleaved passes: which nozzle of a head fires which row of a window in which pass (`specs/Weave.antt`), and their
-//! law: where the nozzles and the pitch have no common divisor, the passes fire each row of a window exactly once, and
-//! no other row.
+//! Interleaved passes: which nozzle of a head fires which row of a window in which pass (`specs/Weave.antt`). Their
+//! law: if the number of nozzles and the pitch are coprime, the passes fire each row of a window exactly once, and no
+//! other row.
 //!
-//! `Plan` computes them both ways. `Plan::make` asks for nozzles and a pitch without a common divisor. `passes` is
-//! exactly the count, and `row` exactly the row under a nozzle in a pass, `None` off the window. `place_of` gives a
-//! pass and a nozzle that fire the row, and no other pass and nozzle fire it. No call takes memory.
+//! `Plan` computes the passes both ways. `Plan::make` needs a number of nozzles and a pitch without a common divisor.
+//! `passes` returns exactly the number of passes. `row` returns exactly the row under a nozzle in a pass, or `None`
+//! outside of the window. `place_of` returns a pass and a nozzle that fire the row, and no other pass and nozzle fire
+//! it. No call allocates memory.
 #![tactic(auto)]
 
 mod inverse;

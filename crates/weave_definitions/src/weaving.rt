@@ -1,4 +1,4 @@
-//! A plan answers both ways: the row under a nozzle in a pass, and the pass and nozzle of a row.
+//! A plan of passes, both ways: the row under a nozzle in a pass, and the pass and nozzle of a row.
 ghost use Rattle.base_definitions.specs.Limits.{most_rows};
 ghost use Rattle.weave_definitions.specs.Weave.{nozzle_row, pass_count};
 ghost use Rattle.std.specs.Int.{IsGcd};
@@ -14,8 +14,8 @@ pub struct PassPlace {
     pub nozzle: u8,
 }
 
-/// The interleaved passes of a head over a window: the head moves down by as many rows as it has nozzles after each
-/// pass, so that its nozzles, which are `pitch` rows apart, fire each row exactly once.
+/// The interleaved passes of a head over a window. After each pass the head moves down by as many rows as it has
+/// nozzles, so its nozzles, which are `pitch` rows apart, fire each row exactly once.
 #[derive(Drop)]
 pub struct Plan {
     nozzles: u8,
@@ -36,7 +36,7 @@ impl Model for Plan {
 
 impl Plan {
     /// A plan for a head of `nozzles` nozzles that are `pitch` rows apart, over a window of `height` rows: at most 22
-    /// inches, at 720 rows an inch.
+    /// inches at 720 rows an inch.
     pub fn make(nozzles: u8, pitch: u8, height: u32) -> Plan
         requires some_nozzles { 1 ≤ nozzles }
         requires some_pitch { 1 ≤ pitch }
@@ -62,7 +62,7 @@ impl Plan {
         (self.height + self.head_rows() + (nozzles - 1)) / nozzles
     }
 
-    /// The row of the first nozzle in a pass, counted from where it is in the first pass.
+    /// The row of the first nozzle in a pass, counted from its row in the first pass.
     pub fn first_row(&self, pass: u32) -> u32
         requires { pass < pass_count self.now.nozzles self.now.pitch self.now.height }
         ensures { result ≡ pass * self.now.nozzles }
@@ -70,7 +70,7 @@ impl Plan {
         pass * u32::from(self.nozzles)
     }
 
-    /// The row of the window under a nozzle in a pass, counted from the top, or `None` where the nozzle is above the
+    /// The row of the window under a nozzle in a pass, counted from the top, or `None` if the nozzle is above the
     /// window or below it.
     pub fn row(&self, pass: u32, nozzle: u8) -> Option<u32>
         requires pass { pass < pass_count self.now.nozzles self.now.pitch self.now.height }
@@ -86,7 +86,7 @@ impl Plan {
         }
     }
 
-    /// The pass and the nozzle that fire a row of the window, which no other pass and nozzle fire.
+    /// The only pass and nozzle that fire a row of the window.
     pub fn place_of(&self, row: u32) -> PassPlace
         requires { row < self.now.height }
         ensures pass { result.pass < pass_count self.now.nozzles self.now.pitch self.now.height }
@@ -107,7 +107,7 @@ impl Plan {
         }
     }
 
-    /// How many rows the last nozzle is below the first. So many rows above the window the head begins.
+    /// How many rows the last nozzle is below the first. The head begins this many rows above the window.
     pub fn head_rows(&self) -> u32
         ensures { result ≡ (self.now.nozzles - 1) * self.now.pitch }
     {

@@ -7,10 +7,10 @@ use std::thread::{Threads, join_mut};
 
 /// A share of work, which one worker does.
 pub trait Share {
-    /// When it may begin.
+    /// When the share may begin.
     ghost ready: { Self → Type 0 };
 
-    /// What it did: the worker before and after.
+    /// What the share does, by its values before and after.
     ghost does: { Self → Self → Type 0 };
 
     /// Works.
@@ -19,8 +19,8 @@ pub trait Share {
         ensures { does self.old self.new };
 }
 
-/// Does each share and the errand, once. The errand runs on the caller's own thread, so neither it nor what it captures
-/// need cross one. In which thread a share is done, and what comes first, is not promised.
+/// Does each share and the errand once. The errand runs on the caller's own thread, so neither the errand nor its
+/// captures have to cross threads. Neither the thread of a share nor the order of work is promised.
 #[cycle(workers)]
 pub fn run_beside<R: Threads + Sync, W: Share + Send, F: FnMut() -> A, A>(
     threads: &R,

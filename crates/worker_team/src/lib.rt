@@ -1,6 +1,6 @@
-//! A team of workers: threads, how many work, and the gate that tiles enter. The work is cut into shares. `run_beside`
-//! does each share once, in threads if they can be started, and an errand once on the caller's own thread (`shares`,
-//! `errand`). It takes no memory.
+//! A team of workers: the threads, the number of workers, and the gate that tiles enter. The work is cut into shares.
+//! `run_beside` does each share once, in threads if they can be started, and an errand once on the caller's own thread
+//! (`shares`, `errand`). It allocates no memory.
 #![tactic(auto)]
 
 mod beside;

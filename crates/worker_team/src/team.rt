@@ -18,14 +18,14 @@ impl Gate for OpenGate {
     }
 }
 
-/// Who works on a page.
+/// The workers on a page.
 #[derive(Drop)]
 pub struct Team<'a, R, G> {
     /// What starts threads.
     pub threads: &'a R,
-    /// How many work, the caller among them: 1 to 64.
+    /// The number of workers, the caller among them: 1 to 64.
     pub workers: u8,
-    /// What all of them share.
+    /// The gate that all workers share.
     pub gate: &'a G,
     pub ghost some: { 1 ≤ workers },
     pub ghost most: { workers ≤ 64 },

@@ -11,8 +11,8 @@ use crate::places::{reach, row_start_across};
 use crate::tiles::TileDots;
 
 impl Planes {
-    /// Sets all dots of band j of the slab of `height` rows that begins at row `at`, on or off as the tiles of the
-    /// band have them, which are listed by column. All rows outside of the band are unchanged.
+    /// Sets all dots of band j of the slab of `height` rows that begins at row `at`, on or off as the band's tiles have
+    /// them. The tiles are listed by column. All rows outside of the band are unchanged.
     pub fn put_band(&mut self, at: u32, height: u32, j: u32, tiles: &[TileDots])
         requires height { 1 ≤ height }
         requires slab { at + height ≤ self.old.rows }

@@ -8,8 +8,8 @@ use crate::bit_rows::{lay_row, row_meets};
 use crate::places::{reach, row_start_across};
 
 impl Planes {
-    /// Whether one of the first `dots` dots of a packed row is on where an ink has a dot in row y, with the row's
-    /// first dot at column x. Bits past these dots are ignored.
+    /// Whether one of the first `dots` dots of a packed row meets a dot of an ink in row y, if the packed row begins at
+    /// column x. Bits past these dots are ignored.
     pub fn meets(&self, ink: u8, y: u32, x: u32, row: &[u8], dots: u32) -> bool
         requires ink { ink < self.now.inks }
         requires y { y < self.now.rows }

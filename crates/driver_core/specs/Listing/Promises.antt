@@ -17,7 +17,7 @@ pub record ListPromises (words : List (List ℕ)) (o : Outsides) (err : Outside)
   -- On 8 the job is refused, the error line says why, and the commands before that are listed.
   pub listed_to_stop : (job : Job) → AsksForList words job → status ≡ 8
       → (offset : ℕ) × (cause : JobStop) × ListsToStop job.most o.input o.out offset cause × Tells err (answer.Job offset cause)
-  -- On 4 and 7 all commands of what was read are listed, and more bytes could mend where it stops; on 5 a proper prefix
+  -- On 4 and 7 all commands of what was read are listed, and these bytes are valid so far; on 5 a proper prefix
   -- of the listing was written.
   pub listed_taken : (job : Job) → AsksForList words job → (status ≡ 4) ⊎ (status ≡ 7) → ListsTaken job.most o.input o.out
   pub listed_part : (job : Job) → AsksForList words job → status ≡ 5

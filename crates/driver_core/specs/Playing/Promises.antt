@@ -21,7 +21,7 @@ pub record DotsPromises (words : List (List ℕ)) (o : Outsides) (err : Outside)
   pub played_to_stop : (job : Job) (p : Printer) → AsksFor words o.shelf.told verb.Dots job (Ok p) → status ≡ 8
       → (offset : ℕ) × (cause : JobStop) × PlaysToStop p job.most o.input o.out offset cause
       × Tells err (answer.Job offset cause)
-  -- On 4 the images of all sheets that what was read ejects were written, and more bytes could mend where it stops.
+  -- On 4 the images of all sheets that what was read ejects were written, and these bytes are valid so far.
   pub played_taken : (job : Job) (p : Printer) → AsksFor words o.shelf.told verb.Dots job (Ok p) → status ≡ 4
       → PlaysTaken p job.most o.input o.out
   -- On 7 the images of some first sheets of what was read were written; on 5 those before the named sheet, and a proper

@@ -8,7 +8,7 @@ ghost use Rattle.std.specs.Prelude.{All, IfErr, OnErr, OnOk, map, ◌<◌, ◌^�
 use driver_answer::Answer;
 use ink_meter::{InkCounts, Meter, OverCap, add_all, admit, cap_all};
 
-/// Sets the caps of the meters if a word gives one, as only a job that prints does.
+/// Sets the caps of the meters if a word gives one. Only a job that prints has such a word.
 pub fn set_caps(cap: Option<u64>, meters: &mut Vec<Box<dyn Meter>>)
     ensures { map (λ meter. account meter) meters.new.items
         ≡ with_cap cap (map (λ meter. account meter) meters.old.items) }
@@ -31,7 +31,7 @@ fn over_cap(number: u32, dots: &InkCounts, over: OverCap) -> Answer
     }
 }
 
-/// Counts a page's dots on each meter, where all have room for them; else on none.
+/// Counts a page's dots on each meter if all meters have room for them, else on none.
 pub fn charge(number: u32, dots: &InkCounts, meters: &mut Vec<Box<dyn Meter>>) -> Result<(), Answer>
     requires { all_inks dots.now < 2 ^ 64 }
     ensures room { OnOk result (All (HasRoom dots.now) (map (λ meter. account meter) meters.old.items)) }

@@ -14,8 +14,8 @@ use ink_meter::{InkCounts, InkSet, count_dots};
 use std::thread::Threads;
 use worker_team::{Team, run_beside};
 
-/// The number of dots of each ink in planes of these inks. An ink outside the set has none. Where there are as many
-/// workers as inks, each counts one.
+/// Counts the dots of each ink in planes of these inks. An ink outside the set has 0 dots. If there are at least as
+/// many workers as inks, each ink is counted by one worker.
 pub fn count_inks<R: Threads + Sync, G>(
     team: &Team<'_, R, G>,
     inks: InkSet,

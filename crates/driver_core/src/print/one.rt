@@ -29,7 +29,7 @@ pub struct Printed {
 /// Prints the pages of one stream (PWG Raster, PWG 5102.4). A page is written once it is read to its last line and
 /// every meter has room for it.
 ///
-/// The answer is never `Usage`, `Profile` or `Job`. Where memory runs out it is `Memory`.
+/// The answer is never `Usage`, `Profile` or `Job`. If memory runs out, the answer is `Memory`.
 pub fn print_stream<R: Threads + Sync, S: Source, K: Sink, G: Gate + Sync>(
     threads: &R,
     alloc: Global,
@@ -45,8 +45,8 @@ pub fn print_stream<R: Threads + Sync, S: Source, K: Sink, G: Gate + Sync>(
         (outside_of K.held K.faults out.old out.new)
         (meters_of (λ meter. account meter) meters.old.items meters.new.items) result.pages result.answer }
     ensures later { K.faults out.old ≤ K.faults out.new }
-    // Where nothing outside fails, a valid stream is printed, a faulty one refused, and a page that goes past a cap
-    // too, unless memory runs out.
+    // If nothing outside fails and memory does not run out, a valid stream is printed, a faulty stream is refused, and
+    // so is a page that goes past a cap.
     ensures valid { AnswersBy IsValid 0 how.now.profile (screening_of how.now.kernel how.now.grain)
         (outside_of S.left S.faults input.old input.new)
         (outside_of K.held K.faults out.old out.new)
@@ -73,9 +73,9 @@ pub fn print_stream<R: Threads + Sync, S: Source, K: Sink, G: Gate + Sync>(
     }
 }
 
-/// Prints the pages of one stream by a profile, as `run` does once its words and its profile are accepted: `job` says
-/// by which kernel and grain, with how many workers, and in which way the head goes over a page; its other words are
-/// not looked at. See `print_stream`.
+/// Prints the pages of one stream by a profile, as `run` does once its words and its profile are accepted. `job` gives
+/// the kernel, the grain, the number of workers, and the way of the head over a page. The other words of `job` are
+/// ignored. See `print_stream`.
 pub fn print_one<R: Threads + Sync, S: Source, K: Sink, G: Gate + Sync>(
     threads: &R,
     alloc: Global,
@@ -92,8 +92,8 @@ pub fn print_one<R: Threads + Sync, S: Source, K: Sink, G: Gate + Sync>(
         (outside_of K.held K.faults out.old out.new)
         (meters_of (λ meter. account meter) meters.old.items meters.new.items) result.pages result.answer }
     ensures later { K.faults out.old ≤ K.faults out.new }
-    // Where nothing outside fails, a valid stream is printed, a faulty one refused, and a page that goes past a cap
-    // too, unless memory runs out.
+    // If nothing outside fails and memory does not run out, a valid stream is printed, a faulty stream is refused, and
+    // so is a page that goes past a cap.
     ensures valid { AnswersBy IsValid 0 profile.now (job_screening job.now)
         (outside_of S.left S.faults input.old input.new)
         (outside_of K.held K.faults out.old out.new)

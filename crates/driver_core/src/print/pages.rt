@@ -19,7 +19,7 @@ use std::thread::Threads;
 use weave_base::{Sink, Source};
 use worker_team::{Gate, Team};
 
-/// The answer where the stream stops.
+/// The answer for a stream that stops.
 pub fn stream_answer(stop: StreamStop) -> Answer
     ensures { result ≡ stream_answer_of stop }
 {
@@ -30,9 +30,9 @@ pub fn stream_answer(stop: StreamStop) -> Answer
     }
 }
 
-/// Prints the pages of the input, each once it is read to its last line and every meter has room for it. The team
-/// diffuses each slab, counts the dots and codes each page. `pages` becomes how many were written whole. `Err` is the
-/// answer where printing stops.
+/// Prints the pages of the input. A page is written once it is read to its last line and every meter has room for it.
+/// The team diffuses each slab, counts the dots and codes each page. `pages` becomes the number of pages that were
+/// written whole. `Err` has the answer if printing stops.
 pub fn print_pages<R: Threads + Sync, S: Source, K: Sink, G: Gate + Sync>(
     team: &Team<'_, R, G>,
     alloc: Global,

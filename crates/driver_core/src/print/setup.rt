@@ -15,15 +15,15 @@ pub struct PrintSetup {
     pub profile: Profile,
     /// The kernel of error diffusion.
     pub kernel: Kernel,
-    /// The grain that is put on amounts before diffusion; 0 for none.
+    /// The grain that is applied to amounts before diffusion; 0 for none.
     pub grain: u8,
     /// How the head goes over a page.
     pub way: Way,
-    /// How many workers: 1 to 64.
+    /// The number of workers: 1 to 64.
     pub workers: u8,
 }
 
-/// How a job prints by a profile.
+/// The setup with which a job prints by a profile.
 pub fn job_setup(job: &Job, profile: &Profile) -> PrintSetup
     ensures { result ≡ setup_of job.now profile.now }
 {

@@ -4,7 +4,7 @@ ghost use Rattle.std.specs.Prelude.{[], ◌≡◌};
 use std::alloc::Global;
 use weave_base::{Failed, Sink};
 
-/// A sink in memory that grows as bytes come. A write fails only where memory runs out.
+/// A sink in memory that grows as bytes come. A write fails only if memory runs out.
 #[derive(Drop)]
 pub struct PageBytes {
     bytes: Vec<u8>,
@@ -29,7 +29,7 @@ impl PageBytes {
         &self.bytes
     }
 
-    /// Drops the bytes, and keeps their room.
+    /// Drops the bytes, and keeps their memory.
     pub fn clear(&mut self)
         ensures { self.new.bytes.items ≡ [] }
     {

@@ -145,8 +145,8 @@ fn try_stream<R: Threads + Sync, G: Gate + Sync>(
     unreachable!()
 }
 
-/// Makes the pages that a job asks for, prints and executes each, and writes their summary. `Err` is the answer where
-/// that stops.
+/// Makes the pages that a job asks for, prints and executes each page, and writes the summary. `Err` has the answer if
+/// the trial stops.
 pub fn try_pages<R: Threads + Sync, K: Sink, G: Gate + Sync>(
     team: &Team<'_, R, G>,
     alloc: Global,

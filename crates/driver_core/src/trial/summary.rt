@@ -11,7 +11,7 @@ use ink_meter::InkCounts;
 use itoa::Buffer;
 use weave_base::{Failed, Sink};
 
-/// What pages came to that were made, printed and executed.
+/// The totals of pages that were made, printed and executed.
 #[derive(Clone, Copy)]
 pub struct Totals {
     /// How many pages were made.

@@ -10,7 +10,7 @@ use crate::states::{State, state_after, units_of};
 use pwg_definitions::LineFault;
 
 impl LineReader {
-    /// Reads one part of a group, at least a byte, and gives its length.
+    /// Reads one part of a group, at least a byte, and returns its length.
     pub(crate) fn step(&mut self, bytes: &[u8]) -> usize
         requires some { 0 < length bytes.now }
         requires is_open { IsOpen self.old.state }

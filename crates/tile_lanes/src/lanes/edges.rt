@@ -42,7 +42,7 @@ pub(crate) fn put_above(pace: Pace, field: &mut [u16; 3502], above: &[i16; 128])
     }
 }
 
-/// Puts the corner edge, left of those.
+/// Puts the corner edge, left of the errors above the tile.
 #[inline(always)]
 pub(crate) fn put_corner(pace: Pace, field: &mut [u16; 3502], corner: &[i16; 12])
     requires field { HeldInRange field.old }

@@ -19,7 +19,7 @@ less : (row table : List ℕ) (filled : Filled) (end : ℕ) → IsFilled row tab
 less row table filled end is near = end_less row filled.at filled.end end is.ends near.0 near.1
 
 cost_fits : (row table : List ℕ) (filled : Filled) (end : ℕ) → IsFilled row table filled → length row ≤ most_row_bytes → Near filled end
-    → get_or table end 0 + (end - (filled.at - 1)) + 1 ≤ 4000
+    → get_or table end 0 + (end - (filled.at - 1)) + 1 ≤ 65535
 cost_fits row table filled end is most near =
     let ends : IsEnd 127 row filled.at end = less row table filled end is near in
     omega (arith, ends.near, ends.within, most, entry_fits row table filled end is ends.on ends.within)
