@@ -9,31 +9,17 @@ ghost use Rattle.tile_shape.specs.declared.tiles.Place.{Place};
 
 mod fixture;
 
+use crate::checks::same;
+use crate::fills::amounts;
+use crate::windows::joined_rows;
 use diffusion_kernel::Kernel;
-use dot_planes::{InkRows, Planes, TileDots};
-use slab_fixtures::{LEVEL_SLAB, known_rows, measured};
+use dot_planes::{InkRows, Planes};
+use slab_fixtures::{LEVEL_SLAB, Measure, known_rows, measured};
 use std::alloc::Global;
-use std::fmt::Debug;
-use std::process::Abort;
 use std::thread::{Threads, for_each_mut};
 use tile_board::{Board, Claim, Closed, Pass};
 use tile_border::TopEdges;
 use tile_shape::{Place, Shape};
-
-// 200 columns and 70 rows of amount 100, in one ink.
-fn level_rows(alloc: Global) -> Option<InkRows>
-    ensures width { IfSome result (λ rows. rows.width ≡ 200) }
-    ensures rows { IfSome result (λ rows. rows.rows ≡ 70) }
-    ensures inks { IfSome result (λ rows. rows.inks ≡ 1) }
-{
-    let Ok(mut rows) = InkRows::make(alloc, 200, 70, 1) else {
-        return None;
-    };
-    for y in 0..70 {
-        rows.put_part(0, 0, y, &[100; 200]);
-    }
-    Some(rows)
-}
 
 // Claims a tile, and works and posts it if it is handed out. Whether a pass that is alone has posted it then.
 fn has_posted(board: &Board<'_, InkRows>, p: &mut Pass, t: Place) -> bool
@@ -175,19 +161,14 @@ fn work_in_turn(board: &Board<'_, InkRows>, shape: Shape, p: &mut Pass, q: &mut 
     }
 }
 
-// Diffuses rows of one ink below a top of errors 0, by two threads or by two passes in turn.
-fn diffuse<R: Threads + Sync>(
-    rt: &R,
-    alloc: Global,
-    rows: &InkRows,
-    with_threads: bool,
-) -> Option<Closed>
-    requires { rows.now.inks ≡ 1 }
-{
+// Diffuses level rows, 200 columns and 70 rows of amount 100 in one ink, below a top of errors 0, by two threads or by
+// two passes in turn.
+fn diffuse<R: Threads + Sync>(rt: &R, alloc: Global, with_threads: bool) -> Option<Closed> {
+    let rows = amounts(alloc, Some(100), 200, 1, 0, 70)?;
     let Ok(top) = TopEdges::zero(alloc, rows.shape().columns(), 1) else {
         return None;
     };
-    let Ok((board, mut p)) = Board::make(alloc, rows, Kernel::Floyd, top, Vec::new(alloc)) else {
+    let Ok((board, mut p)) = Board::make(alloc, &rows, Kernel::Floyd, top, Vec::new(alloc)) else {
         return None;
     };
     let shape = rows.shape();
@@ -209,7 +190,7 @@ fn diffuse<R: Threads + Sync>(
 
 // Diffuses the level rows by two passes, of which the first joins the other while it holds a tile.
 fn diffuse_joining(alloc: Global) -> Option<Closed> {
-    let rows = level_rows(alloc)?;
+    let rows = amounts(alloc, Some(100), 200, 1, 0, 70)?;
     let Ok(top) = TopEdges::zero(alloc, rows.shape().columns(), 1) else {
         return None;
     };
@@ -232,68 +213,39 @@ fn diffuse_joining(alloc: Global) -> Option<Closed> {
     }
 }
 
-// The dots of 200 columns and 70 rows of one ink, laid into planes.
-fn laid(alloc: Global, tiles: &[TileDots]) -> Option<Planes>
-    ensures rows { IfSome result (λ planes. planes.rows ≡ 70) }
-    ensures inks { IfSome result (λ planes. planes.inks ≡ 1) }
-{
+// The number of tiles, the measure of their rows, how many of these are known rows, and the number of dots.
+type Shown = (usize, Measure, usize, u64);
+
+// What the known dots show.
+const KNOWN: Option<Shown> = Some((15, LEVEL_SLAB, 5, LEVEL_SLAB.1));
+
+// What the tiles of the level rows show, laid into planes.
+fn shown(alloc: Global, closed: Option<Closed>) -> Option<Shown> {
+    let tiles = closed?.dots;
     let Ok(mut planes) = Planes::make(alloc, 200, 70, 1) else {
         return None;
     };
-    for tile in tiles {
+    for tile in tiles.as_slice() {
         if tile.place.c < 5 && tile.place.j < 3 {
             planes.put_tile(0, 70, tile);
         }
     }
-    Some(planes)
-}
-
-// The rows of the one ink, one after another.
-fn rows_of(alloc: Global, planes: &Planes) -> Option<Vec<u8>>
-    requires rows { planes.now.rows ≡ 70 }
-    requires inks { planes.now.inks ≡ 1 }
-{
-    let mut rows = Vec::new(alloc);
-    for y in 0..70 {
-        rows.extend_from_slice(planes.row(0, y)).ok()?;
-    }
-    Some(rows)
-}
-
-// Stops the test where a call did not give what was wanted.
-fn same<T: PartialEq + Debug>(rt: &impl Abort, at: &str, got: &T, want: &T) {
-    assert_eq!(rt; *got, *want, "at {at}");
-}
-
-// Stops the test where a board was not closed with the known dots.
-fn has_known_dots(rt: &impl Abort, alloc: Global, closed: Option<Closed>) {
-    let Some(closed) = closed else {
-        panic!(rt; "not closed");
-    };
-    let Some(planes) = laid(alloc, closed.dots.as_slice()) else {
-        panic!(rt; "memory");
-    };
-    let Some(rows) = rows_of(alloc, &planes) else {
-        panic!(rt; "memory");
-    };
-    let found = (measured(&rows), known_rows(&rows));
-    same(rt, "the dots", &found, &(LEVEL_SLAB, 5));
-    let counted = (closed.dots.len(), planes.count(0));
-    same(rt, "the tiles and dots", &counted, &(15, LEVEL_SLAB.1));
+    let rows = joined_rows(alloc, &planes, 0, 70)?;
+    let (measure, known) = (measured(rows.as_slice()), known_rows(rows.as_slice()));
+    Some((tiles.len(), measure, known, planes.count(0)))
 }
 
 #[test]
 fn two_passes_give_the_known_dots(rt: HostRuntime) {
-    let Some(rows) = level_rows(rt.alloc()) else {
-        panic!(rt; "memory");
-    };
-    for with_threads in [false, true] {
-        let closed = diffuse(&rt, rt.alloc(), &rows, with_threads);
-        has_known_dots(&rt, rt.alloc(), closed);
-    }
-}
-
-#[test]
-fn a_pass_joins_another_while_it_holds_a_tile(rt: HostRuntime) {
-    has_known_dots(&rt, rt.alloc(), diffuse_joining(rt.alloc()));
+    let in_turn = shown(rt.alloc(), diffuse(&rt, rt.alloc(), false));
+    same(&rt, "two passes in turn", &in_turn, &KNOWN);
+    let in_threads = shown(rt.alloc(), diffuse(&rt, rt.alloc(), true));
+    same(&rt, "two threads", &in_threads, &KNOWN);
+    let joining = shown(rt.alloc(), diffuse_joining(rt.alloc()));
+    same(
+        &rt,
+        "a pass that joins while it holds a tile",
+        &joining,
+        &KNOWN,
+    );
 }

@@ -3,7 +3,6 @@ ghost use Rattle.diffusion_definitions.specs.Diffusion.{EachInRange, InRange};
 ghost use Rattle.std.specs.Prelude.{◌<◌};
 
 use diffusion_kernel::{Dot, Kernel, Near};
-use std::process::Abort;
 
 // One error near a pixel. The places are x - 1 and x - 2 of its row, then x - 2 to x + 2 one row above, and then two.
 fn one_error(place: usize, err: i16) -> Near
@@ -46,81 +45,51 @@ fn in_first_row(left: i16, left2: i16) -> Near
 // A pixel of the first row of a page: its kernel, its amount, the errors at x - 1 and x - 2, and its dot and error.
 type Case = (Kernel, u8, i16, i16, bool, i16);
 
-fn each(rt: &impl Abort, cases: &[Case]) {
-    for &(kernel, amount, left, left2, on, err) in cases {
+// Rows of halves, the least sum that has a dot, and sums below 0, which are rounded down.
+const CASES: [Case; 17] = [
+    (Kernel::Floyd, 128, 0, 0, true, -2032),
+    (Kernel::Floyd, 128, -2032, 0, false, 1159),
+    (Kernel::Floyd, 128, 1159, -2032, true, -1525),
+    (Kernel::Floyd, 128, -1525, 1159, false, 1380),
+    (Kernel::Jarvis, 128, 0, 0, true, -2032),
+    (Kernel::Jarvis, 128, -2032, 0, false, 1751),
+    (Kernel::Jarvis, 128, 1751, -2032, true, -1989),
+    (Kernel::Stucki, 128, 0, 0, true, -2032),
+    (Kernel::Stucki, 128, -2032, 0, false, 1660),
+    (Kernel::Stucki, 128, 1660, -2032, true, -1910),
+    (Kernel::Floyd, 127, 0, 0, false, 2032),
+    (Kernel::Floyd, 127, 18, 0, false, 2039),
+    (Kernel::Floyd, 127, 19, 0, true, -2040),
+    (Kernel::Floyd, 128, 0, 0, true, -2032),
+    (Kernel::Floyd, 0, -1, 0, false, -1),
+    (Kernel::Jarvis, 0, -1, 0, false, -1),
+    (Kernel::Stucki, 0, -1, 0, false, -1),
+];
+
+#[test]
+fn pixels_of_a_first_row_have_their_dots_and_errors(rt: HostRuntime) {
+    for &(kernel, amount, left, left2, on, err) in &CASES {
         let inside = -2040 <= left && left < 2040 && -2040 <= left2 && left2 < 2040;
         let right = inside && kernel.pixel(amount, &in_first_row(left, left2)) == Dot { on, err };
         assert!(rt; right, "{kernel:?} at {amount} after {left} and {left2}");
     }
 }
 
-#[test]
-fn rows_of_halves(rt: HostRuntime) {
-    const CASES: [Case; 10] = [
-        (Kernel::Floyd, 128, 0, 0, true, -2032),
-        (Kernel::Floyd, 128, -2032, 0, false, 1159),
-        (Kernel::Floyd, 128, 1159, -2032, true, -1525),
-        (Kernel::Floyd, 128, -1525, 1159, false, 1380),
-        (Kernel::Jarvis, 128, 0, 0, true, -2032),
-        (Kernel::Jarvis, 128, -2032, 0, false, 1751),
-        (Kernel::Jarvis, 128, 1751, -2032, true, -1989),
-        (Kernel::Stucki, 128, 0, 0, true, -2032),
-        (Kernel::Stucki, 128, -2032, 0, false, 1660),
-        (Kernel::Stucki, 128, 1660, -2032, true, -1910),
-    ];
-    each(&rt, &CASES);
-}
-
-#[test]
-fn a_dot_stands_from_2040_on(rt: HostRuntime) {
-    const CASES: [Case; 4] = [
-        (Kernel::Floyd, 127, 0, 0, false, 2032),
-        (Kernel::Floyd, 127, 18, 0, false, 2039),
-        (Kernel::Floyd, 127, 19, 0, true, -2040),
-        (Kernel::Floyd, 128, 0, 0, true, -2032),
-    ];
-    each(&rt, &CASES);
-}
-
-#[test]
-fn a_sum_below_0_is_rounded_down(rt: HostRuntime) {
-    const CASES: [Case; 3] = [
-        (Kernel::Floyd, 0, -1, 0, false, -1),
-        (Kernel::Jarvis, 0, -1, 0, false, -1),
-        (Kernel::Stucki, 0, -1, 0, false, -1),
-    ];
-    each(&rt, &CASES);
-}
-
-// A kernel, the sum of its shares, and what an error of as much gives from each place.
-type Table = (Kernel, i16, [i16; 12]);
+// A kernel, how many weights it has, the sum of their shares, and what an error of as much gives from each place.
+type Table = (Kernel, usize, u8, [i16; 12]);
 
 const TABLES: [Table; 3] = [
-    (Kernel::Floyd, 16, [7, 0, 0, 1, 5, 3, 0, 0, 0, 0, 0, 0]),
-    (Kernel::Jarvis, 48, [7, 5, 3, 5, 7, 5, 3, 1, 3, 5, 3, 1]),
-    (Kernel::Stucki, 42, [8, 4, 2, 4, 8, 4, 2, 1, 2, 4, 2, 1]),
+    (Kernel::Floyd, 4, 16, [7, 0, 0, 1, 5, 3, 0, 0, 0, 0, 0, 0]),
+    (Kernel::Jarvis, 12, 48, [7, 5, 3, 5, 7, 5, 3, 1, 3, 5, 3, 1]),
+    (Kernel::Stucki, 12, 42, [8, 4, 2, 4, 8, 4, 2, 1, 2, 4, 2, 1]),
 ];
 
 // What an error gives to a pixel from a place.
-fn given(kernel: Kernel, place: usize, err: i16) -> Option<Dot> {
-    if 12 <= place || err < 0 || 2039 < err {
+fn given(kernel: Kernel, place: usize, err: u8) -> Option<Dot> {
+    if 12 <= place {
         return None;
     }
-    Some(kernel.pixel(0, &one_error(place, err)))
-}
-
-#[test]
-fn each_place_gives_its_share(rt: HostRuntime) {
-    for &(kernel, whole, shares) in &TABLES {
-        for (place, share) in shares.iter().enumerate() {
-            let right = given(kernel, place, whole)
-                == Some(Dot {
-                    on: false,
-                    err: *share,
-                });
-            assert!(rt; right, "{kernel:?} at {place}");
-        }
-    }
+    Some(kernel.pixel(0, &one_error(place, i16::from(err))))
 }
 
 // How many weights a kernel has, and their sum.
@@ -133,12 +102,21 @@ fn counted(kernel: Kernel) -> (usize, u64) {
 }
 
 #[test]
-fn the_weights_are_all_shares(rt: HostRuntime) {
-    for &(kernel, entries, whole) in &[
-        (Kernel::Floyd, 4, 16),
-        (Kernel::Jarvis, 12, 48),
-        (Kernel::Stucki, 12, 42),
-    ] {
-        assert!(rt; counted(kernel) == (entries, whole), "{kernel:?}");
+fn the_weights_are_all_shares_and_each_place_gives_its_own(rt: HostRuntime) {
+    for &(kernel, entries, whole, shares) in &TABLES {
+        assert!(rt;
+            counted(kernel) == (entries, u64::from(whole)),
+            "{kernel:?}"
+        );
+        for (place, err) in shares.iter().enumerate() {
+            let dot = Dot {
+                on: false,
+                err: *err,
+            };
+            assert!(rt;
+                given(kernel, place, whole) == Some(dot),
+                "{kernel:?} at {place}"
+            );
+        }
     }
 }

@@ -23,15 +23,19 @@ fn dots_of(alloc: Global, amount: u8, width: u32, height: u32) -> Option<(u32, [
 }
 
 #[test]
-fn even_amounts_have_the_known_count_of_dots(rt: HostRuntime) {
-    let count = dots_of(rt.alloc(), 100, 200, 70).map(|dots| dots.0);
-    assert_eq!(rt; count, Some(5478));
-}
-
-#[test]
-fn four_halves_give_every_other_dot(rt: HostRuntime) {
-    let dots = dots_of(rt.alloc(), 128, 4, 1);
-    assert_eq!(rt; dots, Some((2, [true, false, true, false])));
+fn even_amounts_have_the_known_dots(rt: HostRuntime) {
+    // an amount, columns and rows, and the dots, of which an independent program computed the first
+    const WINDOWS: [(u8, u32, u32, u32, [bool; 4]); 2] = [
+        (100, 200, 70, 5478, [false, true, false, false]),
+        (128, 4, 1, 2, [true, false, true, false]),
+    ];
+    for &(amount, width, height, count, first) in &WINDOWS {
+        let dots = dots_of(rt.alloc(), amount, width, height);
+        assert!(rt;
+            dots == Some((count, first)),
+            "{amount} in {width} by {height}"
+        );
+    }
 }
 
 #[test]

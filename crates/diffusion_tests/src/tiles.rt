@@ -2,7 +2,6 @@
 //! core of a board, and the atomic steps at a board.
 
 mod border;
-mod checks;
 mod content;
 mod lanes;
 mod scheduler;

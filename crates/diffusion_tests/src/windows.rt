@@ -4,10 +4,12 @@ ghost use Rattle.dot_planes.specs.Tables.{HasSizeOf};
 ghost use Rattle.std.specs.Prelude.{IfSome, length, ◌≡◌};
 ghost use Rattle.tile_border.specs.Tops.{IsTopOf};
 
+use crate::fills::{amounts, fill_of};
 use crate::gates::{CountingGate, WatchedRows};
 use diffusion_kernel::Kernel;
-use dot_planes::{InkRows, Planes};
-use plain_diffusion::{Above, Amounts, Definition, amount_at};
+use dot_planes::Planes;
+use plain_diffusion::{Above, Definition};
+use slab_fixtures::{Measure, known_rows, measured};
 use std::alloc::Global;
 use std::process::Abort;
 use std::sync::atomic::{AtomicU64, Ordering};
@@ -54,13 +56,6 @@ impl Case {
         }
         height
     }
-
-    fn fill(&self, ink: u8) -> Amounts {
-        match self.all {
-            Some(amount) => Amounts::All(amount),
-            None => Amounts::Mixed(ink),
-        }
-    }
 }
 
 // Whether a dot stands at a place before the window is diffused.
@@ -96,26 +91,6 @@ fn spot_row(planes: &mut Planes, i: u8, y: u32)
     }
 }
 
-// The amounts of rows of the window from row `first` on.
-fn amounts(alloc: Global, case: &Case, first: u32, height: u32) -> Option<InkRows> {
-    let (width, inks) = (case.width, case.inks);
-    if width < 1 || width > 200 || height < 1 || height > 300 || inks < 1 || inks > 4 {
-        return None;
-    }
-    let mut rows = InkRows::make(alloc, width, height, inks).ok()?;
-    for i in 0..inks {
-        for y in 0..height {
-            for x in 0..width {
-                if i < rows.inks() && y < rows.rows() && x < rows.width() {
-                    let amount = amount_at(case.fill(i), x, first.wrapping_add(y));
-                    rows.set(i, x, y, amount);
-                }
-            }
-        }
-    }
-    Some(rows)
-}
-
 // A bottom edge of one error in every ink.
 fn edge_of(alloc: Global, inks: u8, error: i16) -> Option<BottomEdge>
     requires { InRange error }
@@ -131,8 +106,8 @@ fn edge_of(alloc: Global, inks: u8, error: i16) -> Option<BottomEdge>
     Some(edge)
 }
 
-// A top of one error everywhere.
-fn top_of(alloc: Global, width: u32, inks: u8, error: i16) -> Option<TopEdges>
+/// A top of one error everywhere.
+pub(crate) fn top_of(alloc: Global, width: u32, inks: u8, error: i16) -> Option<TopEdges>
     ensures { IfSome result (IsTopOf width inks) }
 {
     if width > 200 || inks < 1 || inks > 4 || error < -2040 || error > 2039 {
@@ -169,11 +144,17 @@ fn next_slab<R: Threads + Sync, G: Gate + Sync>(
     ensures inks { planes.new.inks ≡ planes.old.inks }
     ensures top { IfSome result (IsTopOf planes.old.width planes.old.inks) }
 {
-    let rows = amounts(alloc, case, first, height)?;
-    let fits = first <= 300 && rows.rows() <= 300 && first + ABOVE + rows.rows() <= planes.rows();
-    if !fits || rows.width() != planes.width() || rows.inks() != planes.inks() {
+    if first > 300 || height > 300 || first + ABOVE + height > planes.rows() {
         return None;
     }
+    let rows = amounts(
+        alloc,
+        case.all,
+        planes.width(),
+        planes.inks(),
+        first,
+        height,
+    )?;
     diffuse(team, alloc, &rows, case.kernel, top, planes, first + ABOVE).ok()
 }
 
@@ -248,7 +229,7 @@ fn wrong_of(alloc: Global, case: &Case, planes: &Planes, bottom: &TopEdges) -> O
     let height = case.height();
     let mut wrong = 0u32;
     for i in 0..case.inks {
-        let (fill, above) = (case.fill(i), Above::Edges(case.error));
+        let (fill, above) = (fill_of(case.all, i), Above::Edges(case.error));
         let known = Definition::make(alloc, case.kernel, fill, above, case.width, height)?;
         let errors = wrong_errors(bottom, &known, case, i, height.div_ceil(32));
         wrong = wrong.wrapping_add(errors);
@@ -290,11 +271,10 @@ fn next_beside<R: Threads + Sync, F: FnMut()>(
     ensures size { HasSizeOf dots.old.planes dots.new.planes }
     ensures top { IfSome result (IsTopOf dots.old.planes.width dots.old.planes.inks) }
 {
-    let rows = amounts(alloc, case, first, height)?;
-    let fits = first <= 300 && rows.rows() <= 300 && first + ABOVE + rows.rows() <= room;
-    if !fits || rows.width() != case.width || rows.inks() != case.inks {
+    if first > 300 || height > 300 || first + ABOVE + height > room {
         return None;
     }
+    let rows = amounts(alloc, case.all, case.width, case.inks, first, height)?;
     let at = first + ABOVE;
     match diffuse_beside(team, alloc, &rows, case.kernel, top, dots, at, errand) {
         Ok((bottom, ())) => Some(bottom),
@@ -302,7 +282,11 @@ fn next_beside<R: Threads + Sync, F: FnMut()>(
     }
 }
 
-// Diffuses the slabs of a window one below another, of which the last may wait, and gives the top of the rows below.
+/// What the caller does beside the workers: it counts in the first byte how often, and fills the others.
+pub(crate) type Errand = [u8; 17];
+
+// Diffuses the slabs of a window one below another, of which the last may wait, with an errand for each. Gives the top
+// of the rows below, and what the errands did.
 fn diffuse_waiting<R: Threads + Sync>(
     team: &Team<'_, R, OpenGate>,
     alloc: Global,
@@ -310,58 +294,53 @@ fn diffuse_waiting<R: Threads + Sync>(
     top: TopEdges,
     room: u32,
     dots: &mut DotsSoFar,
-) -> Option<TopEdges>
+) -> Option<(TopEdges, Errand)>
     requires top { IsTopOf dots.old.planes.width dots.old.planes.inks top }
     requires width { dots.old.planes.width ≡ case.now.width }
     requires inks { dots.old.planes.inks ≡ case.now.inks }
     requires room { dots.old.planes.rows ≡ room }
-    ensures { IfSome result (IsTopOf dots.old.planes.width dots.old.planes.inks) }
+    ensures { IfSome result (λ r. IsTopOf dots.old.planes.width dots.old.planes.inks r.0) }
 {
     let mut top = top;
     let mut first = 0u32;
+    let mut bytes = [0u8; 17];
     'slabs: for rows in case.slabs {
-        let mut none = || {};
-        top = next_beside(team, alloc, case, top, first, *rows, room, dots, &mut none)?;
+        let mut errand = || {
+            bytes[1..].fill(7);
+            bytes[0] = bytes[0].saturating_add(1);
+        };
+        top = next_beside(
+            team,
+            alloc,
+            case,
+            top,
+            first,
+            *rows,
+            room,
+            dots,
+            &mut errand,
+        )?;
         first = first.wrapping_add(*rows);
     }
-    Some(top)
+    Some((top, bytes))
 }
 
 /// How many dots and bottom errors of a window are wrong, where this many workers diffuse it and the tiles of a slab
-/// may wait while the next one is diffused.
+/// may wait while the next one is diffused, and what the caller's errands did.
 pub(crate) fn wrong_waiting<R: Threads + Sync>(
     threads: &R,
     alloc: Global,
     case: &Case,
     workers: u8,
-) -> Option<u32> {
+) -> Option<(u32, Errand)> {
     let team = team_of(threads, workers, &OpenGate);
     let planes = spotted(alloc, case.width, case.height(), case.inks)?;
     let room = planes.rows();
     let top = top_of(alloc, case.width, case.inks, case.error)?;
     let mut dots = DotsSoFar::of(planes);
-    let bottom = diffuse_waiting(&team, alloc, case, top, room, &mut dots)?;
-    wrong_of(alloc, case, &dots.finish(), &bottom)
-}
-
-/// How many dots and bottom errors of a window of one slab are wrong, where this many workers diffuse it and the caller
-/// has an errand.
-pub(crate) fn wrong_beside<R: Threads + Sync, F: FnMut()>(
-    threads: &R,
-    alloc: Global,
-    case: &Case,
-    workers: u8,
-    errand: &mut F,
-) -> Option<u32>
-    requires { F.pre errand.old }
-{
-    let team = team_of(threads, workers, &OpenGate);
-    let planes = spotted(alloc, case.width, case.height(), case.inks)?;
-    let (height, room) = (case.height(), planes.rows());
-    let top = top_of(alloc, case.width, case.inks, case.error)?;
-    let mut dots = DotsSoFar::of(planes);
-    let bottom = next_beside(&team, alloc, case, top, 0, height, room, &mut dots, errand)?;
-    wrong_of(alloc, case, &dots.finish(), &bottom)
+    let (bottom, errand) = diffuse_waiting(&team, alloc, case, top, room, &mut dots)?;
+    let wrong = wrong_of(alloc, case, &dots.finish(), &bottom)?;
+    Some((wrong, errand))
 }
 
 /// How many tiles of the first slab of a window this many workers begin to work before they enter the gate.
@@ -375,11 +354,11 @@ pub(crate) fn early_tiles<R: Threads + Sync>(
     let team = team_of(threads, workers, gate);
     let mut planes = spotted(alloc, case.width, case.height(), case.inks)?;
     let top = top_of(alloc, case.width, case.inks, case.error)?;
-    let rows = amounts(alloc, case, 0, case.height())?;
-    let fits = rows.rows() <= 300 && ABOVE + rows.rows() <= planes.rows();
-    if !fits || rows.width() != planes.width() || rows.inks() != planes.inks() {
+    let height = case.height();
+    if height > 300 || ABOVE + height > planes.rows() {
         return None;
     }
+    let rows = amounts(alloc, case.all, case.width, case.inks, 0, height)?;
     let watched = WatchedRows {
         rows,
         gate,
@@ -389,26 +368,37 @@ pub(crate) fn early_tiles<R: Threads + Sync>(
     Some(watched.early.load(Ordering::SeqCst))
 }
 
-/// The rows of a window of one ink, one after another, as this many workers diffuse it.
-pub(crate) fn rows_of<R: Threads + Sync, G: Gate + Sync>(
-    threads: &R,
+/// Rows of the first ink, one after another.
+pub(crate) fn joined_rows(
     alloc: Global,
-    case: &Case,
-    workers: u8,
-    gate: &G,
+    planes: &Planes,
+    first: u32,
+    count: u32,
 ) -> Option<Vec<u8>> {
-    let team = team_of(threads, workers, gate);
-    let mut planes = spotted(alloc, case.width, case.height(), case.inks)?;
-    let top = top_of(alloc, case.width, case.inks, case.error)?;
-    let _bottom = diffuse_slabs(&team, alloc, case, top, &mut planes)?;
     let mut rows = Vec::new(alloc);
-    for y in 0..case.height() {
-        let at = y.saturating_add(ABOVE);
+    for y in 0..count {
+        let at = y.saturating_add(first);
         if at < planes.rows() && 0 < planes.inks() {
             rows.extend_from_slice(planes.row(0, at)).ok()?;
         }
     }
     Some(rows)
+}
+
+/// The measure of the rows of a window of one ink, as this many workers diffuse it, and how many known rows are there.
+pub(crate) fn measure_of<R: Threads + Sync, G: Gate + Sync>(
+    threads: &R,
+    alloc: Global,
+    case: &Case,
+    workers: u8,
+    gate: &G,
+) -> Option<(Measure, usize)> {
+    let team = team_of(threads, workers, gate);
+    let mut planes = spotted(alloc, case.width, case.height(), case.inks)?;
+    let top = top_of(alloc, case.width, case.inks, case.error)?;
+    let _bottom = diffuse_slabs(&team, alloc, case, top, &mut planes)?;
+    let rows = joined_rows(alloc, &planes, ABOVE, case.height())?;
+    Some((measured(rows.as_slice()), known_rows(rows.as_slice())))
 }
 
 /// Diffuses a window by this many workers, and compares its dots and its bottom errors with the plain program's.

@@ -1,5 +1,5 @@
 //! How often a run asks a shelf and writes to a sink, and the most pages of a stream.
-use crate::fixture::{PRINT, leaves, one_page, run_bytes};
+use crate::fixture::{PRINT, Page, leaves, run_bytes, stream_of};
 use driver_core::OpenGate;
 use driver_fixtures::{
     add_page, begin, no_files, one_file, plain, roomy, run_over, run_with, sink,
@@ -71,7 +71,8 @@ fn asks_all<R: Abort + Threads + Sync>(
     for (words, status, names) in questions {
         let (answer, asked) = asked(rt, alloc, words)?;
         let found = (answer, asked.len(), first(&asked));
-        assert!(rt; found == (*status, names.len(), names.first().copied()));
+        let wanted = (*status, names.len(), names.first().copied());
+        assert!(rt; found == wanted, "{words:?}");
     }
     Ok(())
 }
@@ -109,28 +110,30 @@ impl Sink for CountingSink {
     }
 }
 
-// How many writes a page takes by a head of 15 nozzles four rows apart: 120 lines of margins, and 300 lines that are
-// fired in 24 passes. `None` where the run does not succeed.
-fn writes_of<R: Threads + Sync>(rt: &R, alloc: Global) -> Result<Option<u32>, Fail> {
-    let bytes = one_page(alloc, 218, 420, &[255, 127, 0, 89, 0, 163, 127, 0, 89, 0])?;
+// A black page of 420 lines.
+const TALL: Page<'static> = (
+    Kind::Gray8,
+    (218, 420),
+    &[255, 127, 0, 89, 0, 163, 127, 0, 89, 0],
+);
+
+// The status, the length of the error line and how many writes a page takes by a head of 15 nozzles four rows apart:
+// 120 lines of margins, and 300 lines that are fired in 24 passes.
+fn writes_of<R: Threads + Sync>(rt: &R, alloc: Global) -> Result<(u8, usize, u32), Fail> {
     let mut out = CountingSink {
         sink: roomy(alloc)?,
         writes: 0,
     };
-    let (input, mut shelf) = (plain(alloc, bytes), no_files(alloc));
-    let words = ["print", "profile=p360cmyk"];
+    let input = plain(alloc, stream_of(alloc, &[TALL])?);
+    let (words, mut shelf) = (["print", "profile=p360cmyk"], no_files(alloc));
     let (status, err) = run_with(rt, alloc, &words, input, &mut out, &mut shelf, &OpenGate)?;
-    if status == 0 && err.bytes().is_empty() {
-        Ok(Some(out.writes))
-    } else {
-        Ok(None)
-    }
+    Ok((status, err.bytes().len(), out.writes))
 }
 
 #[test]
 fn a_pass_is_one_write(rt: HostRuntime) -> Result<(), Fail> {
-    let writes = writes_of(&rt, rt.alloc())?;
-    assert!(rt; writes.is_some_and(|writes| writes <= 24 + 2), "{writes:?}");
+    let (status, line, writes) = writes_of(&rt, rt.alloc())?;
+    assert!(rt; (status, line) == (0, 0) && writes <= 24 + 2, "{writes}");
     Ok(())
 }
 
@@ -168,10 +171,7 @@ fn a_byte_after_page_9999_is_too_many_pages(rt: HostRuntime) -> Result<(), Fail>
         no_files(alloc),
     )?;
     let jobs = repeated(alloc, one.out.bytes(), 9999)?;
-    leaves(
-        &rt,
-        &left,
-        (3, &jobs, b"input: page 10000 line 0: TooManyPages\n"),
-    );
+    let line = b"input: page 10000 line 0: TooManyPages\n";
+    leaves(&rt, "a byte after page 9999", &left, (3, &jobs, line));
     Ok(())
 }

@@ -1,5 +1,6 @@
 //! Pages of each kind of pixel by printers of each set of inks.
-use crate::fixture::{PRINT, PageRow, Wanted, try_pages};
+use crate::fixture::{BY_TEXT, PRINT, Wanted};
+use crate::rows::{Given, Row, Table, try_tables};
 use pwg_header::Kind;
 use std::test::Fail;
 
@@ -7,9 +8,6 @@ use std::test::Fail;
 const FOUR: &[&[u8]] = &[b"escp2-profile 1\nhdpi=360\nvdpi=360\nnozzles=1\npitch=1\ninks=cmyk\n"];
 
 const THREE: &[&[u8]] = &[b"escp2-profile 1\nhdpi=360\nvdpi=360\nnozzles=1\npitch=1\ninks=cmy\n"];
-
-// The words that take them.
-const BY_TEXT: [&str; 2] = ["print", "profile=m1.txt"];
 
 // The commands before the passes of a sheet of one row.
 const PROLOGUE: [u8; 46] = [
@@ -39,77 +37,94 @@ const COLOURS: Wanted = (0, &[&PROLOGUE, &CYAN, &MAGENTA, &YELLOW, &END], b"");
 
 const RED: Wanted = (0, &[&PROLOGUE, &MAGENTA, &YELLOW, &END], b"");
 
-#[test]
-fn inks_go_in_the_order_of_their_set(rt: HostRuntime) -> Result<(), Fail> {
-    const GREEN: Wanted = (0, &[&PROLOGUE, &CYAN, &YELLOW, &END], b"");
-    const BLUE: Wanted = (0, &[&PROLOGUE, &CYAN, &MAGENTA, &END], b"");
-    const ROWS: [PageRow; 4] = [
-        (Kind::Rgb8, (1, 1), &[0, 0, 0, 0, 0], ONE_BLACK),
-        (Kind::Rgb8, (1, 1), &[0, 0, 0xFF, 0, 0], RED),
-        (Kind::Rgb8, (1, 1), &[0, 0, 0, 0xFF, 0], GREEN),
-        (Kind::Rgb8, (1, 1), &[0, 0, 0, 0, 0xFF], BLUE),
-    ];
-    try_pages(&rt, rt.alloc(), &BY_TEXT, FOUR, &ROWS)
+const GREEN: Wanted = (0, &[&PROLOGUE, &CYAN, &YELLOW, &END], b"");
+
+const BLUE: Wanted = (0, &[&PROLOGUE, &CYAN, &MAGENTA, &END], b"");
+
+// What a page of one pixel leaves.
+macro_rules! pixel {
+    ($inks:ident, $kind:ident, $body:expr, $wanted:expr) => {
+        (
+            &BY_TEXT,
+            Given::Pages($inks, &[(Kind::$kind, (1, 1), $body)]),
+            $wanted,
+        )
+    };
 }
 
-#[test]
-fn pages_without_colour_take_black_or_all_colours(rt: HostRuntime) -> Result<(), Fail> {
-    const BY_FOUR: [PageRow; 7] = [
-        (Kind::Gray8, (1, 1), &[0, 0, 0], ONE_BLACK),
-        (Kind::Gray8, (1, 1), &[0, 0, 0xFF], NONE),
-        (Kind::Black8, (1, 1), &[0, 0, 0xFF], ONE_BLACK),
-        (Kind::Black8, (1, 1), &[0, 0, 0], NONE),
-        (Kind::Cmyk8, (1, 1), &[0, 0, 0, 0, 0, 0xFF], ONE_BLACK),
-        (Kind::Cmyk8, (1, 1), &[0, 0, 0, 0xFF, 0xFF, 0], RED),
-        (Kind::Cmyk8, (1, 1), &[0, 0x80], NONE),
-    ];
-    const BY_THREE: [PageRow; 5] = [
-        (Kind::Gray8, (1, 1), &[0, 0, 0], COLOURS),
-        (Kind::Gray8, (1, 1), &[0, 0, 0xFF], NONE),
-        (Kind::Black8, (1, 1), &[0, 0, 0xFF], COLOURS),
-        (Kind::Black8, (1, 1), &[0, 0, 0], NONE),
-        (Kind::Cmyk8, (1, 1), &[0, 0, 0, 0, 0, 0xFF], COLOURS),
-    ];
-    try_pages(&rt, rt.alloc(), &BY_TEXT, FOUR, &BY_FOUR)?;
-    try_pages(&rt, rt.alloc(), &BY_TEXT, THREE, &BY_THREE)
-}
+const ORDER: [Row; 4] = [
+    pixel!(FOUR, Rgb8, &[0, 0, 0, 0, 0], ONE_BLACK),
+    pixel!(FOUR, Rgb8, &[0, 0, 0xFF, 0, 0], RED),
+    pixel!(FOUR, Rgb8, &[0, 0, 0, 0xFF, 0], GREEN),
+    pixel!(FOUR, Rgb8, &[0, 0, 0, 0, 0xFF], BLUE),
+];
+
+const WITHOUT_COLOUR: [Row; 12] = [
+    pixel!(FOUR, Gray8, &[0, 0, 0], ONE_BLACK),
+    pixel!(FOUR, Gray8, &[0, 0, 0xFF], NONE),
+    pixel!(FOUR, Black8, &[0, 0, 0xFF], ONE_BLACK),
+    pixel!(FOUR, Black8, &[0, 0, 0], NONE),
+    pixel!(FOUR, Cmyk8, &[0, 0, 0, 0, 0, 0xFF], ONE_BLACK),
+    pixel!(FOUR, Cmyk8, &[0, 0, 0, 0xFF, 0xFF, 0], RED),
+    pixel!(FOUR, Cmyk8, &[0, 0x80], NONE),
+    pixel!(THREE, Gray8, &[0, 0, 0], COLOURS),
+    pixel!(THREE, Gray8, &[0, 0, 0xFF], NONE),
+    pixel!(THREE, Black8, &[0, 0, 0xFF], COLOURS),
+    pixel!(THREE, Black8, &[0, 0, 0], NONE),
+    pixel!(THREE, Cmyk8, &[0, 0, 0, 0, 0, 0xFF], COLOURS),
+];
 
 // The passes of every other of twelve dots.
 const TWELVE: [u8; 15] = [
     0x1B, 0x72, 0, 0x0D, 0x1B, 0x2E, 1, 10, 10, 1, 12, 0, 1, 0xAA, 0xA0,
 ];
 
-#[test]
-fn spare_bits_of_a_line_are_read_past(rt: HostRuntime) -> Result<(), Fail> {
-    const WANTED: Wanted = (0, &[&PROLOGUE, &TWELVE, &END], b"");
-    const ROWS: [PageRow; 2] = [
-        (Kind::Black1, (12, 1), &[0, 1, 0xAA], WANTED),
-        (Kind::Black1, (12, 1), &[0, 0xFF, 0xAA, 0xAF], WANTED),
-    ];
-    try_pages(&rt, rt.alloc(), &PRINT, &[], &ROWS)
-}
+const EVERY_OTHER: Wanted = (0, &[&PROLOGUE, &TWELVE, &END], b"");
+
+const SPARE_BITS: [Row; 2] = [
+    (
+        &PRINT,
+        Given::Pages(&[], &[(Kind::Black1, (12, 1), &[0, 1, 0xAA])]),
+        EVERY_OTHER,
+    ),
+    (
+        &PRINT,
+        Given::Pages(&[], &[(Kind::Black1, (12, 1), &[0, 0xFF, 0xAA, 0xAF])]),
+        EVERY_OTHER,
+    ),
+];
+
+const REFUSED: [Row; 3] = [
+    pixel!(
+        FOUR,
+        Rgb8,
+        &[0, 0, 1, 2],
+        (3, &[], b"input: page 1 line 1: Truncated\n")
+    ),
+    pixel!(
+        FOUR,
+        Rgb8,
+        &[0, 1],
+        (3, &[], b"input: page 1 line 1: RunPastLine\n")
+    ),
+    pixel!(
+        FOUR,
+        Rgb8,
+        &[1],
+        (3, &[], b"input: page 1 line 1: GroupPastPage\n")
+    ),
+];
 
 #[test]
-fn a_colour_page_is_refused_at_its_line(rt: HostRuntime) -> Result<(), Fail> {
-    const ROWS: [PageRow; 3] = [
+fn pixels_of_each_kind_take_their_inks(rt: HostRuntime) -> Result<(), Fail> {
+    const TABLES: [Table; 4] = [
+        ("inks go in the order of their set", &ORDER),
         (
-            Kind::Rgb8,
-            (1, 1),
-            &[0, 0, 1, 2],
-            (3, &[], b"input: page 1 line 1: Truncated\n"),
+            "pages without colour take black or all colours",
+            &WITHOUT_COLOUR,
         ),
-        (
-            Kind::Rgb8,
-            (1, 1),
-            &[0, 1],
-            (3, &[], b"input: page 1 line 1: RunPastLine\n"),
-        ),
-        (
-            Kind::Rgb8,
-            (1, 1),
-            &[1],
-            (3, &[], b"input: page 1 line 1: GroupPastPage\n"),
-        ),
+        ("spare bits of a line are read past", &SPARE_BITS),
+        ("a colour page is refused at its line", &REFUSED),
     ];
-    try_pages(&rt, rt.alloc(), &BY_TEXT, FOUR, &ROWS)
+    try_tables(&rt, rt.alloc(), &TABLES)
 }

@@ -1,8 +1,7 @@
-//! Runs in memory, as rows of tables.
+//! Runs in memory, and what they leave.
 use driver_core::{OpenGate, run};
 use driver_fixtures::{
-    Left, add_page, begin, failing_shelf, joined, no_files, one_file, plain, roomy, run_over,
-    source, words,
+    BLACK_BODY, Left, add_page, begin, joined, no_files, one_file, plain, roomy, run_over, words,
 };
 use hash_fixtures::hash_of;
 use ink_meter::Meter;
@@ -27,26 +26,26 @@ pub const GREY_JOB: [u8; 70] = [
 /// The bytes of a stream of one page of grey.
 pub const GREY_STREAM: usize = 1808;
 
+/// A page for a printer of 360 dots an inch, by its kind, its size and its body.
+pub type Page<'a> = (Kind, (u32, u32), &'a [u8]);
+
+/// The page of grey.
+pub const GREY: Page<'static> = (Kind::Gray8, (4, 2), &GREY_BODY);
+
+/// A black page of eight columns and six lines.
+pub const BLACK: Page<'static> = (Kind::Gray8, (8, 6), &BLACK_BODY);
+
 /// The words of most runs.
 pub const PRINT: [&str; 2] = ["print", "profile=tiny1"];
 
 /// The words of runs on a printer of three nozzles.
 pub const TINY: [&str; 2] = ["print", "profile=tiny"];
 
+/// The words of runs on the printer of the file `m1.txt`.
+pub const BY_TEXT: [&str; 2] = ["print", "profile=m1.txt"];
+
 /// The status, the parts of the output and the error line that a run leaves.
 pub type Wanted = (u8, &'static [&'static [u8]], &'static [u8]);
-
-/// A page for a printer of 360 dots an inch, by its kind, its size and its body, and what a run leaves of it.
-pub type PageRow = (Kind, (u32, u32), &'static [u8], Wanted);
-
-/// Words, an input, and what they leave of it.
-pub type BytesRow = (&'static [&'static str], &'static [u8], Wanted);
-
-/// The parts of a profile's text, and what showing it leaves.
-pub type TextRow = (&'static [&'static [u8]], Wanted);
-
-/// Words that are refused before anything outside is asked: the words, the status and the error line.
-pub type Refusal = (&'static [&'static str], u8, &'static [u8]);
 
 /// Writes these bytes at their places.
 pub fn change(bytes: &mut Vec<u8>, changes: &[(usize, u8)]) {
@@ -57,22 +56,12 @@ pub fn change(bytes: &mut Vec<u8>, changes: &[(usize, u8)]) {
     }
 }
 
-/// A stream of one page of grey for a printer of 360 dots an inch.
-pub fn one_page(
-    alloc: Global,
-    width: u32,
-    height: u32,
-    body: &[u8],
-) -> Result<Vec<u8>, AllocError> {
+/// A stream of these pages.
+pub fn stream_of(alloc: Global, pages: &[Page<'_>]) -> Result<Vec<u8>, AllocError> {
     let mut bytes = begin(alloc)?;
-    add_page(&mut bytes, Kind::Gray8, (width, height), body)?;
-    Ok(bytes)
-}
-
-/// A stream of two pages of grey.
-pub fn two_pages(alloc: Global) -> Result<Vec<u8>, AllocError> {
-    let mut bytes = one_page(alloc, 4, 2, &GREY_BODY)?;
-    add_page(&mut bytes, Kind::Gray8, (4, 2), &GREY_BODY)?;
+    for (kind, size, body) in pages {
+        add_page(&mut bytes, *kind, *size, body)?;
+    }
     Ok(bytes)
 }
 
@@ -110,122 +99,49 @@ pub fn run_bytes<R: Threads + Sync>(
     run_over(rt, alloc, words, plain(alloc, bytes), roomy(alloc)?, shelf)
 }
 
-/// Asserts the status, the output and the error line that a run left.
-pub fn leaves<R: Abort>(rt: &R, left: &Left, wanted: (u8, &[u8], &[u8])) {
-    assert_eq!(rt; left.all(), wanted);
+/// Asserts the status, the output and the error line that a run left. The text says which run it is.
+pub fn leaves<R: Abort>(rt: &R, at: &str, left: &Left, wanted: (u8, &[u8], &[u8])) {
+    assert_eq!(rt; left.all(), wanted, "{at}");
 }
 
-/// Asserts the same, with the output by its parts.
+/// Asserts the same of the run of these words, with the output by its parts.
 pub fn leaves_parts<R: Abort>(
     rt: &R,
     alloc: Global,
+    (at, words): (&str, &[&str]),
     left: &Left,
     (status, parts, line): Wanted,
 ) -> Result<(), Fail> {
-    leaves(rt, left, (status, &joined(alloc, parts)?, line));
+    let out = joined(alloc, parts)?;
+    assert_eq!(rt;
+        left.all(),
+        (status, out.as_slice(), line),
+        "{at}: {words:?}"
+    );
     Ok(())
 }
 
-/// Asserts that a run succeeded, and the length and the hash of its output.
-pub fn hashes_to<R: Abort>(rt: &R, left: &Left, length: usize, hash: u64) {
+/// What a run leaves: its status, its error line, and the length and the hash of its output.
+pub type Hashed = (u8, &'static [u8], usize, u64);
+
+/// Asserts the status and the error line that a run left, and the length and the hash of its output.
+pub fn hashes_to<R: Abort>(rt: &R, at: &str, left: &Left, wanted: Hashed) {
     let (status, out, line) = left.all();
-    assert_eq!(rt;
-        (status, line, out.len(), hash_of(out)),
-        (0, b"".as_slice(), length, hash)
-    );
+    let found = (status, line, out.len(), hash_of(out));
+    assert_eq!(rt; found, wanted, "{at}");
 }
 
 /// Asserts the length and the hash of the images of a job that the simplest printer plays.
 pub fn plays_to<R: Abort + Threads + Sync>(
     rt: &R,
     alloc: Global,
+    at: &str,
     job: &Left,
-    length: usize,
-    hash: u64,
+    (length, hash): (usize, u64),
 ) -> Result<(), Fail> {
     let bytes = job.out.bytes().to_vec(alloc)?;
     let words = ["dots", "profile=tiny1"];
     let left = run_bytes(rt, alloc, &words, bytes, no_files(alloc))?;
-    hashes_to(rt, &left, length, hash);
-    Ok(())
-}
-
-// Prints a page by a profile's text, where words name it.
-fn print_page<R: Threads + Sync>(
-    rt: &R,
-    alloc: Global,
-    words: &[&str],
-    text: &[&[u8]],
-    (kind, size, body): (Kind, (u32, u32), &[u8]),
-) -> Result<Left, Fail> {
-    let mut bytes = begin(alloc)?;
-    add_page(&mut bytes, kind, size, body)?;
-    let shelf = text_shelf(alloc, &joined(alloc, text)?)?;
-    Ok(run_bytes(rt, alloc, words, bytes, shelf)?)
-}
-
-/// Asserts what words leave of each page. The file `m1.txt` has these parts.
-pub fn try_pages<R: Abort + Threads + Sync>(
-    rt: &R,
-    alloc: Global,
-    words: &[&str],
-    text: &[&[u8]],
-    rows: &[PageRow],
-) -> Result<(), Fail> {
-    for (kind, size, body, wanted) in rows {
-        let left = print_page(rt, alloc, words, text, (*kind, *size, body))?;
-        leaves_parts(rt, alloc, &left, *wanted)?;
-    }
-    Ok(())
-}
-
-/// Asserts what each of these words leave of their input.
-pub fn try_bytes<R: Abort + Threads + Sync>(
-    rt: &R,
-    alloc: Global,
-    rows: &[BytesRow],
-) -> Result<(), Fail> {
-    for (words, bytes, wanted) in rows {
-        let left = run_bytes(rt, alloc, words, bytes.to_vec(alloc)?, no_files(alloc))?;
-        leaves_parts(rt, alloc, &left, *wanted)?;
-    }
-    Ok(())
-}
-
-/// Shows the profile whose text has these parts.
-pub fn show<R: Threads + Sync>(rt: &R, alloc: Global, text: &[&[u8]]) -> Result<Left, Fail> {
-    let shelf = text_shelf(alloc, &joined(alloc, text)?)?;
-    let words = ["profile", "profile=m1.txt"];
-    Ok(run_bytes(rt, alloc, &words, Vec::new(alloc), shelf)?)
-}
-
-/// Asserts what showing each profile leaves.
-pub fn try_texts<R: Abort + Threads + Sync>(
-    rt: &R,
-    alloc: Global,
-    rows: &[TextRow],
-) -> Result<(), Fail> {
-    for (text, wanted) in rows {
-        leaves_parts(rt, alloc, &show(rt, alloc, text)?, *wanted)?;
-    }
-    Ok(())
-}
-
-// What words leave over an input and a shelf whose first calls fail.
-fn refused<R: Threads + Sync>(rt: &R, alloc: Global, words: &[&str]) -> Result<Left, Fail> {
-    let input = source(alloc, Vec::new(alloc), 1, 1)?;
-    let shelf = failing_shelf(alloc)?;
-    Ok(run_over(rt, alloc, words, input, roomy(alloc)?, shelf)?)
-}
-
-/// Asserts the answer to each of these words.
-pub fn refuses_all<R: Abort + Threads + Sync>(
-    rt: &R,
-    alloc: Global,
-    refusals: &[Refusal],
-) -> Result<(), Fail> {
-    for (words, status, line) in refusals {
-        leaves(rt, &refused(rt, alloc, words)?, (*status, b"", line));
-    }
+    hashes_to(rt, at, &left, (0, b"", length, hash));
     Ok(())
 }

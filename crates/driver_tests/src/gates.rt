@@ -1,7 +1,9 @@
 //! Gates that workers enter with their tiles.
-use crate::fixture::{hashes_to, one_page, plays_to};
+use crate::fixture::{Page, hashes_to, plays_to, stream_of};
+use crate::kernels::ONE_GREY;
 use driver_core::{Gate, Place};
 use driver_fixtures::{Left, no_files, plain, roomy, run_with};
+use pwg_header::Kind;
 use slab_fixtures::MeetingGate;
 use std::alloc::Global;
 use std::sync::atomic::{AtomicU64, Ordering};
@@ -26,11 +28,15 @@ fn print_through<R: Threads + Sync, G: Gate + Sync>(
 #[test]
 fn two_tiles_are_inside_the_gate_at_once(rt: HostRuntime) -> Result<(), Fail> {
     let alloc = rt.alloc();
-    // the whole page in one grey
-    let page = one_page(alloc, 200, 70, &[0x45, 0x7F, 0x9B, 0x47, 0x9B])?;
+    let page = stream_of(alloc, &[ONE_GREY])?;
     let gate = MeetingGate::make();
     let by_two = print_through(&rt, alloc, "workers=2", page, &gate)?;
-    hashes_to(&rt, &by_two, 3192, 0xDFF3_6ADB_6A87_5A1D);
+    hashes_to(
+        &rt,
+        "by two",
+        &by_two,
+        (0, b"", 3192, 0xDFF3_6ADB_6A87_5A1D),
+    );
     assert!(rt; gate.met() == 2);
     Ok(())
 }
@@ -59,8 +65,9 @@ impl TurnGate {
 
     // How many tiles entered, how many of them in turn, and how many while another was held.
     fn counts(&self) -> (u64, u64, u64) {
-        let load = |count: &AtomicU64| count.load(Ordering::SeqCst);
-        (load(&self.came), load(&self.in_turn), load(&self.overtaken))
+        let came = self.came.load(Ordering::SeqCst);
+        let in_turn = self.in_turn.load(Ordering::SeqCst);
+        (came, in_turn, self.overtaken.load(Ordering::SeqCst))
     }
 
     // Holds a tile until another enters, or for all turns.
@@ -86,16 +93,19 @@ impl Gate for TurnGate {
     }
 }
 
+// A page of one column and 257 lines.
+const TWO_SLABS: Page<'static> = (Kind::Gray8, (1, 257), &[0xFF, 0, 0x9B, 0, 0, 0x9B]);
+
 // The page is diffused in slabs of 256 rows, one after another, however many workers there are.
 #[test]
 fn errors_cross_the_slab_at_row_256(rt: HostRuntime) -> Result<(), Fail> {
     let alloc = rt.alloc();
     for workers in ["workers=1", "workers=2"] {
-        let page = one_page(alloc, 1, 257, &[0xFF, 0, 0x9B, 0, 0, 0x9B])?;
+        let page = stream_of(alloc, &[TWO_SLABS])?;
         let gate = TurnGate::make();
         let left = print_through(&rt, alloc, workers, page, &gate)?;
-        hashes_to(&rt, &left, 1855, 0xB1BB_344A_C3B2_09A4);
-        plays_to(&rt, alloc, &left, 1064, 0x6523_246F_CB57_0EA5)?;
+        hashes_to(&rt, workers, &left, (0, b"", 1855, 0xB1BB_344A_C3B2_09A4));
+        plays_to(&rt, alloc, workers, &left, (1064, 0x6523_246F_CB57_0EA5))?;
         let counts = gate.counts();
         assert!(rt; counts == (9, 9, 0), "{workers} {counts:?}");
     }

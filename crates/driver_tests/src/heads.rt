@@ -84,31 +84,28 @@ fn try_pitches<R: Abort + Threads + Sync>(rt: &R, alloc: Global, nozzles: u8) ->
     Ok(())
 }
 
+// Heads of many nozzles: the nozzles, how many rows they stand apart, and the turn.
+const LARGE: [(u8, u8, u16); 12] = [
+    (16, 7, 8),
+    (31, 8, 11),
+    (59, 9, 13),
+    (64, 5, 22),
+    (97, 12, 36),
+    (128, 3, 9),
+    (180, 7, 25),
+    (229, 10, 34),
+    (254, 9, 47),
+    (255, 13, 20),
+    (3, 25, 30),
+    (5, 51, 33),
+];
+
 #[test]
-fn small_heads_fire_each_dot_once(rt: HostRuntime) -> Result<(), Fail> {
+fn heads_fire_each_dot_once(rt: HostRuntime) -> Result<(), Fail> {
     for nozzles in 1..13u8 {
         try_pitches(&rt, rt.alloc(), nozzles)?;
     }
-    Ok(())
-}
-
-#[test]
-fn large_heads_fire_each_dot_once(rt: HostRuntime) -> Result<(), Fail> {
-    const HEADS: [(u8, u8, u16); 12] = [
-        (16, 7, 8),
-        (31, 8, 11),
-        (59, 9, 13),
-        (64, 5, 22),
-        (97, 12, 36),
-        (128, 3, 9),
-        (180, 7, 25),
-        (229, 10, 34),
-        (254, 9, 47),
-        (255, 13, 20),
-        (3, 25, 30),
-        (5, 51, 33),
-    ];
-    for &(nozzles, pitch, turn) in &HEADS {
+    for &(nozzles, pitch, turn) in &LARGE {
         try_head(&rt, rt.alloc(), nozzles, pitch, turn)?;
     }
     Ok(())

@@ -3,7 +3,7 @@ use std::alloc::Global;
 use weave_base::Memory;
 
 /// Why a job is not one that this printer can print.
-#[derive(Clone, Copy, Debug, PartialEq, Eq)]
+#[derive(Clone, Copy, Debug)]
 pub enum JobFault {
     /// It ends inside a command.
     Cut,

@@ -1,6 +1,5 @@
 //! Tests of whole runs of the commands for print jobs.
 mod dots;
-mod fixture;
 mod lists;
 mod random;
 mod random_jobs;

@@ -47,6 +47,8 @@ mod printers;
 #[cfg(test)]
 mod profiles;
 #[cfg(test)]
+mod rows;
+#[cfg(test)]
 mod runs;
 #[cfg(test)]
 mod small_heads;

@@ -169,11 +169,11 @@ impl Machine<'_> {
         let from_top = y
             .wrapping_add(i64::from(self.printer.top))
             .wrapping_mul(self.row_step());
-        if from_top >= self.bottom && bytes.iter().any(|byte| *byte != 0) {
-            return Err(JobFault::OffWindow);
-        }
         let mut column = x;
         for byte in bytes.iter() {
+            if from_top >= self.bottom && *byte != 0 {
+                return Err(JobFault::OffWindow);
+            }
             self.printed.fire(self.ink, *byte, column, y)?;
             column = column.wrapping_add(8);
         }

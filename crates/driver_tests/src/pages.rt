@@ -1,9 +1,9 @@
 //! Pages of each kind of pixel, for each set of inks with each kernel: the job fires exactly the dots that a page
 //! asks for.
 use crate::any_printer::{PLAINEST, Printer};
-use crate::fixture::{leaves, run_bytes, text_shelf};
+use crate::fixture::{BY_TEXT, leaves, run_bytes, text_shelf};
 use crate::pictures::{Picture, print_picture, prints_its_dots};
-use crate::plain::{GRAINED, KERNELS, Screening};
+use crate::plain::{GRAINED, KERNELS, PLAIN_FLOYD, Screening};
 use driver_fixtures::begin;
 use pwg_header::Kind;
 use std::alloc::Global;
@@ -47,13 +47,13 @@ fn printer_of(inks: InkSet) -> Printer {
     }
 }
 
-// Prints a picture with each of three kernels.
+// Prints a picture with each of these kernels.
 fn prints_by_each<R: Abort + Threads + Sync>(
     rt: &R,
     alloc: Global,
     printer: &Printer,
     picture: &Picture,
-    kernels: &[Screening; 3],
+    kernels: &[Screening],
 ) -> Result<(), Fail> {
     for how in kernels {
         prints_its_dots(rt, alloc, printer, picture, how)?;
@@ -61,17 +61,41 @@ fn prints_by_each<R: Abort + Threads + Sync>(
     Ok(())
 }
 
-// Prints a picture of each kind with each of three kernels.
+// The columns and rows of pictures, the curves of their printer, the seed of the first picture, and the kernels.
+type Size = (
+    (u32, u32),
+    Option<&'static [[u16; 17]; 4]>,
+    u64,
+    &'static [Screening],
+);
+
+// The last rows of the tallest pictures are in a second slab.
+const SIZES: [Size; 8] = [
+    ((1, 11), None, 1, &KERNELS),
+    ((7, 11), None, 1, &KERNELS),
+    ((8, 11), None, 1, &KERNELS),
+    ((9, 11), None, 1, &KERNELS),
+    ((1, 9), None, 1, &GRAINED),
+    ((70, 11), None, 1, &GRAINED),
+    ((5, 260), None, 1, &GRAINED),
+    ((13, 9), Some(&CURVES), 11, &FLOYD),
+];
+
+const FLOYD: [Screening; 1] = [PLAIN_FLOYD];
+
+// Prints a picture of each kind.
 fn try_size<R: Abort + Threads + Sync>(
     rt: &R,
     alloc: Global,
     inks: InkSet,
-    size: (u32, u32),
-    kernels: &[Screening; 3],
+    (size, curves, seed, kernels): Size,
 ) -> Result<(), Fail> {
-    let printer = printer_of(inks);
-    for (kind, seed) in KINDS.into_iter().zip(1u64..6) {
-        let picture = Picture::random(alloc, kind, size, seed)?;
+    let printer = Printer {
+        curves,
+        ..printer_of(inks)
+    };
+    for (kind, more) in KINDS.into_iter().zip(0u64..5) {
+        let picture = Picture::random(alloc, kind, size, seed.wrapping_add(more))?;
         prints_by_each(rt, alloc, &printer, &picture, kernels)?;
     }
     Ok(())
@@ -79,36 +103,9 @@ fn try_size<R: Abort + Threads + Sync>(
 
 #[test]
 fn each_kind_is_printed_by_each_set_and_kernel(rt: HostRuntime) -> Result<(), Fail> {
-    for inks in [InkSet::K, InkSet::Cmy, InkSet::Cmyk] {
-        for width in [1, 7, 8, 9] {
-            try_size(&rt, rt.alloc(), inks, (width, 11), &KERNELS)?;
-        }
-    }
-    Ok(())
-}
-
-// The last rows of the tallest pictures are in a second slab.
-#[test]
-fn each_kind_is_printed_with_grain(rt: HostRuntime) -> Result<(), Fail> {
-    for inks in [InkSet::K, InkSet::Cmy, InkSet::Cmyk] {
-        for size in [(1, 9), (70, 11), (5, 260)] {
-            try_size(&rt, rt.alloc(), inks, size, &GRAINED)?;
-        }
-    }
-    Ok(())
-}
-
-#[test]
-fn each_kind_is_printed_through_curves(rt: HostRuntime) -> Result<(), Fail> {
-    let alloc = rt.alloc();
-    for inks in [InkSet::K, InkSet::Cmy, InkSet::Cmyk] {
-        let printer = Printer {
-            curves: Some(&CURVES),
-            ..printer_of(inks)
-        };
-        for (kind, seed) in KINDS.into_iter().zip(11u64..16) {
-            let picture = Picture::random(alloc, kind, (13, 9), seed)?;
-            prints_its_dots(&rt, alloc, &printer, &picture, &KERNELS[0])?;
+    for &size in &SIZES {
+        for inks in [InkSet::K, InkSet::Cmy, InkSet::Cmyk] {
+            try_size(&rt, rt.alloc(), inks, size)?;
         }
     }
     Ok(())
@@ -121,7 +118,7 @@ fn pixels_of_one_bit_are_printed_behind_any_left_margin(rt: HostRuntime) -> Resu
         let printer = Printer { left, ..PLAINEST };
         for width in [10, 16, 17, 90] {
             let picture = Picture::random(alloc, Kind::Black1, (width, 5), u64::from(left))?;
-            prints_its_dots(&rt, alloc, &printer, &picture, &KERNELS[0])?;
+            prints_its_dots(&rt, alloc, &printer, &picture, &PLAIN_FLOYD)?;
         }
     }
     Ok(())
@@ -137,7 +134,7 @@ fn five_kinds<R: Threads + Sync>(
     for (kind, seed) in KINDS.into_iter().zip(21u64..26) {
         let picture = Picture::random(alloc, kind, (9, 6), seed)?;
         picture.add_to(&mut stream, (360, 360))?;
-        let left = print_picture(rt, alloc, printer, &picture, &KERNELS[0])?;
+        let left = print_picture(rt, alloc, printer, &picture, &PLAIN_FLOYD)?;
         jobs.extend_from_slice(left.out.bytes())?;
     }
     Ok((stream, jobs))
@@ -149,9 +146,8 @@ fn a_stream_of_five_kinds_is_printed_page_by_page(rt: HostRuntime) -> Result<(),
     let (stream, jobs) = five_kinds(&rt, rt.alloc(), &printer)?;
     let text = printer.text(rt.alloc())?;
     let shelf = text_shelf(rt.alloc(), text.as_bytes())?;
-    let words = ["print", "profile=m1.txt"];
-    let left = run_bytes(&rt, rt.alloc(), &words, stream, shelf)?;
-    leaves(&rt, &left, (0, &jobs, b""));
+    let left = run_bytes(&rt, rt.alloc(), &BY_TEXT, stream, shelf)?;
+    leaves(&rt, "five kinds", &left, (0, &jobs, b""));
     Ok(())
 }
 

@@ -201,7 +201,9 @@ fn fires_its_dots<R: Abort>(
         let wanted = wanted(alloc, printer, picture, how, *ink)?;
         assert!(rt;
             dots.cells() == wanted.cells(),
-            "{ink:?} by {} {}",
+            "{ink:?} of {} by {}, {} {}",
+            picture.width,
+            picture.height,
             how.kernel_word,
             how.grain_word
         );

@@ -53,14 +53,17 @@ const STUCKI: Shares = &[
     (2, 2, 1),
 ];
 
+/// Floyd and Steinberg's kernel, without grain.
+pub const PLAIN_FLOYD: Screening = Screening {
+    kernel_word: "kernel=fs",
+    shares: FLOYD,
+    grain_word: "grain=0",
+    grain: 0,
+};
+
 /// The three kernels, without grain.
 pub const KERNELS: [Screening; 3] = [
-    Screening {
-        kernel_word: "kernel=fs",
-        shares: FLOYD,
-        grain_word: "grain=0",
-        grain: 0,
-    },
+    PLAIN_FLOYD,
     Screening {
         kernel_word: "kernel=jjn",
         shares: JARVIS,
@@ -159,11 +162,13 @@ fn of_four(printer: &Printer, ink: Ink, (cyan, magenta, yellow, black): (u8, u8,
         Ink::Magenta => magenta,
         Ink::Yellow => yellow,
     };
-    let left = |ink: u8| 255 - ink.saturating_add(black);
+    let red = 255 - cyan.saturating_add(black);
+    let green = 255 - magenta.saturating_add(black);
+    let blue = 255 - yellow.saturating_add(black);
     match printer.inks {
         InkSet::Cmyk => own,
         InkSet::Cmy => own.saturating_add(black),
-        InkSet::K => of_colour(printer, ink, (left(cyan), left(magenta), left(yellow))),
+        InkSet::K => of_colour(printer, ink, (red, green, blue)),
     }
 }
 

@@ -86,7 +86,7 @@ fn plays_its_dots<R: Abort + Threads + Sync>(
     for how in &KERNELS {
         let left = played(rt, alloc, printer, picture, how)?;
         let images = images_of(alloc, printer, picture, how)?;
-        leaves(rt, &left, (0, &images, b""));
+        leaves(rt, how.kernel_word, &left, (0, &images, b""));
     }
     Ok(())
 }

@@ -1,126 +1,150 @@
 //! Streams of pages, whole and refused.
 use crate::fixture::{
-    GREY_BODY, GREY_JOB, GREY_STREAM, PRINT, PageRow, TINY, Wanted, change, hashes_to, leaves,
-    leaves_parts, one_page, run_bytes, try_pages, two_pages,
+    GREY, GREY_JOB, GREY_STREAM, PRINT, TINY, Wanted, leaves, run_bytes, stream_of,
 };
-use driver_fixtures::{Left, add_page, no_files, prefix, roomy, run_over, source};
+use crate::rows::{Given, HashRow, Row, Table, try_hashes, try_tables};
+use driver_fixtures::{no_files, prefix};
 use pwg_header::Kind;
 use std::alloc::Global;
 use std::process::Abort;
 use std::test::Fail;
 use std::thread::Threads;
 
-#[test]
-fn the_first_path_prints_one_grey_page(rt: HostRuntime) -> Result<(), Fail> {
-    const ROWS: [PageRow; 1] = [(Kind::Gray8, (4, 2), &GREY_BODY, (0, &[&GREY_JOB], b""))];
-    try_pages(&rt, rt.alloc(), &PRINT, &[], &ROWS)
+const FIRST: [Row; 1] = [(&PRINT, Given::Pages(&[], &[GREY]), (0, &[&GREY_JOB], b""))];
+
+// A page of eight columns and six lines.
+macro_rules! small {
+    ($body:expr) => {
+        Given::Pages(&[], &[(Kind::Gray8, (8, 6), $body)])
+    };
 }
 
-#[test]
-fn a_run_past_its_line_is_refused_at_its_byte(rt: HostRuntime) -> Result<(), Fail> {
-    const PAST: Wanted = (3, &[], b"input: page 1 line 1: RunPastLine\n");
-    const ROWS: [PageRow; 4] = [
-        (Kind::Gray8, (8, 6), &[0, 8, 0], PAST),
-        (Kind::Gray8, (8, 6), &[0, 8], PAST),
+const PAST_LINE: Wanted = (3, &[], b"input: page 1 line 1: RunPastLine\n");
+
+const CUT_AT_FOUR: Wanted = (3, &[], b"input: page 1 line 4: Truncated\n");
+
+const PAST_LINE_FOUR: Wanted = (3, &[], b"input: page 1 line 4: RunPastLine\n");
+
+const LONG_RUNS: [Row; 8] = [
+    (&PRINT, small!(&[0, 8, 0]), PAST_LINE),
+    (&PRINT, small!(&[0, 8]), PAST_LINE),
+    (&PRINT, small!(&[2, 7, 0, 1, 0xF9]), CUT_AT_FOUR),
+    (&PRINT, small!(&[2, 7, 0, 1, 0xF8]), PAST_LINE_FOUR),
+    (&TINY, small!(&[0, 8, 0]), PAST_LINE),
+    (&TINY, small!(&[0, 8]), PAST_LINE),
+    (&TINY, small!(&[2, 7, 0, 1, 0xF9]), CUT_AT_FOUR),
+    (&TINY, small!(&[2, 7, 0, 1, 0xF8]), PAST_LINE_FOUR),
+];
+
+// A page of eight columns and 255 lines.
+macro_rules! tall {
+    ($body:expr) => {
+        Given::Pages(&[], &[(Kind::Gray8, (8, 255), $body)])
+    };
+}
+
+const PAST_PAGE: Wanted = (3, &[], b"input: page 1 line 1: GroupPastPage\n");
+
+const LONG_GROUPS: [Row; 2] = [
+    (&PRINT, tall!(&[0xFF, 7, 0]), PAST_PAGE),
+    (&PRINT, tall!(&[0xFF]), PAST_PAGE),
+];
+
+// The page of grey with a byte of its header changed.
+macro_rules! header {
+    ($place:literal, $byte:literal, $line:literal) => {
         (
-            Kind::Gray8,
-            (8, 6),
-            &[2, 7, 0, 1, 0xF9],
-            (3, &[], b"input: page 1 line 4: Truncated\n"),
-        ),
+            &PRINT,
+            Given::Changed(&[GREY], &[($place, $byte)]),
+            (3, &[], $line),
+        )
+    };
+}
+
+const HEADERS: [Row; 12] = [
+    header!(4, b'p', b"input: page 1 line 0: NotPwg\n"),
+    header!(13, 1, b"input: page 1 line 0: NotPwg\n"),
+    header!(283, 0, b"input: page 1 line 0: Resolution\n"),
+    header!(287, 0, b"input: page 1 line 0: Resolution\n"),
+    header!(379, 0, b"input: page 1 line 0: Width\n"),
+    header!(383, 0, b"input: page 1 line 0: Height\n"),
+    // 16 bits a colour
+    header!(391, 16, b"input: page 1 line 0: Kind\n"),
+    header!(395, 16, b"input: page 1 line 0: Kind\n"),
+    header!(399, 5, b"input: page 1 line 0: BytesPerLine\n"),
+    header!(403, 1, b"input: page 1 line 0: Order\n"),
+    header!(463, 2, b"input: page 1 line 0: Transform\n"),
+    header!(467, 255, b"input: page 1 line 0: Transform\n"),
+];
+
+const SECOND_PAGE: [Row; 1] = [(
+    &PRINT,
+    Given::Pages(&[], &[GREY, (Kind::Gray8, (4, 2), &[0, 3, 0, 0, 4])]),
+    (3, &[&GREY_JOB], b"input: page 2 line 2: RunPastLine\n"),
+)];
+
+// Reads of two pages of grey, of at most so many bytes.
+macro_rules! pieces {
+    ($piece:literal) => {
         (
-            Kind::Gray8,
-            (8, 6),
-            &[2, 7, 0, 1, 0xF8],
-            (3, &[], b"input: page 1 line 4: RunPastLine\n"),
-        ),
-    ];
-    try_pages(&rt, rt.alloc(), &PRINT, &[], &ROWS)?;
-    try_pages(&rt, rt.alloc(), &TINY, &[], &ROWS)
-}
-
-#[test]
-fn a_group_past_the_page_is_refused_at_its_count(rt: HostRuntime) -> Result<(), Fail> {
-    const PAST: Wanted = (3, &[], b"input: page 1 line 1: GroupPastPage\n");
-    const ROWS: [PageRow; 2] = [
-        (Kind::Gray8, (8, 255), &[0xFF, 7, 0], PAST),
-        (Kind::Gray8, (8, 255), &[0xFF], PAST),
-    ];
-    try_pages(&rt, rt.alloc(), &PRINT, &[], &ROWS)
-}
-
-// A byte of the header of a page of grey that is changed, and the error line.
-type HeaderRow = (usize, u8, &'static [u8]);
-
-// Prints a page of grey with one byte of its stream changed.
-fn print_changed<R: Threads + Sync>(
-    rt: &R,
-    alloc: Global,
-    change_of: (usize, u8),
-) -> Result<Left, Fail> {
-    let mut bytes = one_page(alloc, 4, 2, &GREY_BODY)?;
-    change(&mut bytes, &[change_of]);
-    Ok(run_bytes(rt, alloc, &PRINT, bytes, no_files(alloc))?)
-}
-
-// Asserts that a stream of a page of grey with one byte changed is refused.
-fn try_headers<R: Abort + Threads + Sync>(
-    rt: &R,
-    alloc: Global,
-    rows: &[HeaderRow],
-) -> Result<(), Fail> {
-    for (at, byte, line) in rows {
-        leaves(rt, &print_changed(rt, alloc, (*at, *byte))?, (3, b"", line));
-    }
-    Ok(())
-}
-
-#[test]
-fn a_refused_header_is_named_by_its_cause(rt: HostRuntime) -> Result<(), Fail> {
-    const CASES: [HeaderRow; 12] = [
-        (4, b'p', b"input: page 1 line 0: NotPwg\n"),
-        (13, 1, b"input: page 1 line 0: NotPwg\n"),
-        (283, 0, b"input: page 1 line 0: Resolution\n"),
-        (287, 0, b"input: page 1 line 0: Resolution\n"),
-        (379, 0, b"input: page 1 line 0: Width\n"),
-        (383, 0, b"input: page 1 line 0: Height\n"),
-        // 16 bits a colour
-        (391, 16, b"input: page 1 line 0: Kind\n"),
-        (395, 16, b"input: page 1 line 0: Kind\n"),
-        (399, 5, b"input: page 1 line 0: BytesPerLine\n"),
-        (403, 1, b"input: page 1 line 0: Order\n"),
-        (463, 2, b"input: page 1 line 0: Transform\n"),
-        (467, 255, b"input: page 1 line 0: Transform\n"),
-    ];
-    try_headers(&rt, rt.alloc(), &CASES)
-}
-
-#[test]
-fn a_fault_of_the_second_page_keeps_the_first(rt: HostRuntime) -> Result<(), Fail> {
-    let alloc = rt.alloc();
-    let mut bytes = one_page(alloc, 4, 2, &GREY_BODY)?;
-    add_page(&mut bytes, Kind::Gray8, (4, 2), &[0, 3, 0, 0, 4])?;
-    let left = run_bytes(&rt, alloc, &PRINT, bytes, no_files(alloc))?;
-    let line = b"input: page 2 line 2: RunPastLine\n";
-    leaves(&rt, &left, (3, &GREY_JOB, line));
-    Ok(())
-}
-
-// Prints two pages of grey, where a read gives at most so many bytes.
-fn print_pieces<R: Threads + Sync>(rt: &R, alloc: Global, piece: u32) -> Result<Left, Fail> {
-    let input = source(alloc, two_pages(alloc)?, piece, 0)?;
-    Ok(run_over(rt, alloc, &PRINT, input, roomy(alloc)?, no_files(alloc))?)
+            &PRINT,
+            Given::Reads(&[GREY, GREY], ($piece, 0), 70_000),
+            (0, &[&GREY_JOB, &GREY_JOB], b""),
+        )
+    };
 }
 
 // Reads that end in the sync word, in a header, in a body and between the pages.
+const PIECES: [Row; 8] = [
+    pieces!(1),
+    pieces!(3),
+    pieces!(4),
+    pieces!(1799),
+    pieces!(1800),
+    pieces!(1807),
+    pieces!(1808),
+    pieces!(1809),
+];
+
+// A black line of 8191 columns.
+const WIDE_BODY: [u8; 129] = [
+    0, 127, 0, 127, 0, 127, 0, 127, 0, 127, 0, 127, 0, 127, 0, 127, 0, 127, 0, 127, 0, 127, 0, 127,
+    0, 127, 0, 127, 0, 127, 0, 127, 0, 127, 0, 127, 0, 127, 0, 127, 0, 127, 0, 127, 0, 127, 0, 127,
+    0, 127, 0, 127, 0, 127, 0, 127, 0, 127, 0, 127, 0, 127, 0, 127, 0, 127, 0, 127, 0, 127, 0, 127,
+    0, 127, 0, 127, 0, 127, 0, 127, 0, 127, 0, 127, 0, 127, 0, 127, 0, 127, 0, 127, 0, 127, 0, 127,
+    0, 127, 0, 127, 0, 127, 0, 127, 0, 127, 0, 127, 0, 127, 0, 127, 0, 127, 0, 127, 0, 127, 0, 127,
+    0, 127, 0, 127, 0, 127, 0, 126, 0,
+];
+
+const TOO_WIDE: [Row; 1] = [(
+    &PRINT,
+    Given::Pages(&[], &[(Kind::Gray8, (8192, 1), &WIDE_BODY)]),
+    (3, &[], b"input: page 1 line 0: Width\n"),
+)];
+
 #[test]
-fn pieces_of_a_stream_give_the_job(rt: HostRuntime) -> Result<(), Fail> {
-    const PIECES: [u32; 8] = [1, 3, 4, 1799, 1800, 1807, 1808, 1809];
-    for &piece in &PIECES {
-        let left = print_pieces(&rt, rt.alloc(), piece)?;
-        leaves_parts(&rt, rt.alloc(), &left, (0, &[&GREY_JOB, &GREY_JOB], b""))?;
-    }
-    Ok(())
+fn each_stream_has_its_job_or_its_fault(rt: HostRuntime) -> Result<(), Fail> {
+    const TABLES: [Table; 7] = [
+        ("the first path prints one grey page", &FIRST),
+        ("a run past its line is refused at its byte", &LONG_RUNS),
+        (
+            "a group past the page is refused at its count",
+            &LONG_GROUPS,
+        ),
+        ("a refused header is named by its cause", &HEADERS),
+        ("a fault of the second page keeps the first", &SECOND_PAGE),
+        ("pieces of a stream give the job", &PIECES),
+        ("a page wider than the greatest is refused", &TOO_WIDE),
+    ];
+    // an independent program that follows the definitions gives the same job
+    const WIDEST: [HashRow; 1] = [(
+        "a page of the greatest width is printed",
+        &PRINT,
+        Given::Pages(&[], &[(Kind::Gray8, (8191, 1), &WIDE_BODY)]),
+        (0, b"", 79, 0x1276_6F55_193F_5370),
+    )];
+    try_hashes(&rt, rt.alloc(), &WIDEST)?;
+    try_tables(&rt, rt.alloc(), &TABLES)
 }
 
 // The status, the output and the error line of the first bytes of a stream of one page of grey.
@@ -144,39 +168,14 @@ fn try_prefixes<R: Abort + Threads + Sync>(
     for count in 0..GREY_STREAM + 1 {
         let bytes = prefix(whole, count).to_vec(alloc)?;
         let left = run_bytes(rt, alloc, &PRINT, bytes, no_files(alloc))?;
-        leaves(rt, &left, answer_to_prefix(count));
+        leaves(rt, "a prefix of a page", &left, answer_to_prefix(count));
     }
     Ok(())
 }
 
 #[test]
 fn every_prefix_of_a_stream_has_its_answer(rt: HostRuntime) -> Result<(), Fail> {
-    let whole = one_page(rt.alloc(), 4, 2, &GREY_BODY)?;
+    let whole = stream_of(rt.alloc(), &[GREY])?;
     assert!(rt; whole.len() == GREY_STREAM);
     try_prefixes(&rt, rt.alloc(), &whole)
-}
-
-// A black line of 8191 columns.
-const WIDE_BODY: [u8; 129] = [
-    0, 127, 0, 127, 0, 127, 0, 127, 0, 127, 0, 127, 0, 127, 0, 127, 0, 127, 0, 127, 0, 127, 0, 127,
-    0, 127, 0, 127, 0, 127, 0, 127, 0, 127, 0, 127, 0, 127, 0, 127, 0, 127, 0, 127, 0, 127, 0, 127,
-    0, 127, 0, 127, 0, 127, 0, 127, 0, 127, 0, 127, 0, 127, 0, 127, 0, 127, 0, 127, 0, 127, 0, 127,
-    0, 127, 0, 127, 0, 127, 0, 127, 0, 127, 0, 127, 0, 127, 0, 127, 0, 127, 0, 127, 0, 127, 0, 127,
-    0, 127, 0, 127, 0, 127, 0, 127, 0, 127, 0, 127, 0, 127, 0, 127, 0, 127, 0, 127, 0, 127, 0, 127,
-    0, 127, 0, 127, 0, 127, 0, 126, 0,
-];
-
-// An independent program that follows the definitions gives the same job.
-#[test]
-fn a_page_of_the_greatest_width_is_printed(rt: HostRuntime) -> Result<(), Fail> {
-    const WIDER: [PageRow; 1] = [(
-        Kind::Gray8,
-        (8192, 1),
-        &WIDE_BODY,
-        (3, &[], b"input: page 1 line 0: Width\n"),
-    )];
-    let page = one_page(rt.alloc(), 8191, 1, &WIDE_BODY)?;
-    let left = run_bytes(&rt, rt.alloc(), &PRINT, page, no_files(rt.alloc()))?;
-    hashes_to(&rt, &left, 79, 0x1276_6F55_193F_5370);
-    try_pages(&rt, rt.alloc(), &PRINT, &[], &WIDER)
 }

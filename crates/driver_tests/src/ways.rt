@@ -1,7 +1,5 @@
-//! Tests of whole runs by shingled passes, around dead nozzles, of trials, and of a page of one bit.
+//! Tests of whole runs by shingled passes, around dead nozzles, and of trials.
 //!
 //! The expected values were worked out independently of the driver, by hand or by another program.
-mod fixture;
-mod kinds;
 mod trials;
 mod ways;

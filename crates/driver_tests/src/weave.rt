@@ -1,13 +1,9 @@
 //! Pages printed by heads of several nozzles, and a run without a word for the profile.
 use crate::any_printer::{PLAINEST, Printer};
-use crate::fixture::{
-    BytesRow, PRINT, PageRow, TINY, Wanted, change, hashes_to, leaves, leaves_parts, run_bytes,
-    try_bytes, try_pages,
-};
+use crate::fixture::{BLACK, PRINT, TINY, Wanted, change, hashes_to, leaves, run_bytes};
 use crate::machine::execute;
-use driver_fixtures::{
-    BLACK_BODY, Left, add_header, begin, black_pages, no_files, plain, run_over, sink,
-};
+use crate::rows::{Given, HashRow, Row, Table, try_hashes, try_tables};
+use driver_fixtures::{Left, add_header, begin, no_files, plain, run_over, sink};
 use hash_fixtures::hash_of;
 use job_fixtures::TINY_JOB;
 use pwg_header::Kind;
@@ -17,31 +13,28 @@ use std::test::Fail;
 use std::thread::Threads;
 use weave_base::InkSet;
 
-#[test]
-fn tiny_prints_ninety_two_bytes(rt: HostRuntime) -> Result<(), Fail> {
-    const ROWS: [PageRow; 1] = [(Kind::Gray8, (8, 6), &BLACK_BODY, (0, &[&TINY_JOB], b""))];
-    try_pages(&rt, rt.alloc(), &TINY, &[], &ROWS)
-}
+// The second is a page of one bit a pixel.
+const NINETY_TWO_BYTES: [Row; 2] = [
+    (&TINY, Given::Pages(&[], &[BLACK]), (0, &[&TINY_JOB], b"")),
+    (
+        &TINY,
+        Given::Pages(&[], &[(Kind::Black1, (8, 6), &[5, 0, 0xFF])]),
+        (0, &[&TINY_JOB], b""),
+    ),
+];
 
-#[test]
-fn a_stream_without_a_page_prints_nothing(rt: HostRuntime) -> Result<(), Fail> {
-    const ROWS: [BytesRow; 2] = [
-        (&TINY, b"RaS2", (0, &[], b"")),
-        (&PRINT, b"RaS2", (0, &[], b"")),
-    ];
-    try_bytes(&rt, rt.alloc(), &ROWS)
-}
+const WITHOUT_A_PAGE: [Row; 2] = [
+    (&TINY, Given::Bytes(b"RaS2"), (0, &[], b"")),
+    (&PRINT, Given::Bytes(b"RaS2"), (0, &[], b"")),
+];
 
-#[test]
-fn a_short_input_is_bad_sync(rt: HostRuntime) -> Result<(), Fail> {
-    const BAD_SYNC: Wanted = (3, &[], b"input: page 0 line 0: BadSync\n");
-    const ROWS: [BytesRow; 3] = [
-        (&["print"], b"", BAD_SYNC),
-        (&["print"], b"Ra", BAD_SYNC),
-        (&["print"], b"RaS3", BAD_SYNC),
-    ];
-    try_bytes(&rt, rt.alloc(), &ROWS)
-}
+const BAD_SYNC: Wanted = (3, &[], b"input: page 0 line 0: BadSync\n");
+
+const SHORT_INPUTS: [Row; 3] = [
+    (&["print"], Given::Bytes(b""), BAD_SYNC),
+    (&["print"], Given::Bytes(b"Ra"), BAD_SYNC),
+    (&["print"], Given::Bytes(b"RaS3"), BAD_SYNC),
+];
 
 // Three rasters of one dot.
 const THREE_RASTERS: [u8; 105] = [
@@ -53,44 +46,51 @@ const THREE_RASTERS: [u8; 105] = [
     0x40,
 ];
 
-#[test]
-fn one_nozzle_prints_three_rasters(rt: HostRuntime) -> Result<(), Fail> {
-    const ROWS: [PageRow; 1] = [(Kind::Gray8, (1, 3), &[2, 0, 0], (0, &[&THREE_RASTERS], b""))];
-    try_pages(&rt, rt.alloc(), &PRINT, &[], &ROWS)
-}
+const ONE_NOZZLE: [Row; 1] = [(
+    &PRINT,
+    Given::Pages(&[], &[(Kind::Gray8, (1, 3), &[2, 0, 0])]),
+    (0, &[&THREE_RASTERS], b""),
+)];
 
-// Prints two black pages and a cut header of a third.
-fn print_cut<R: Threads + Sync>(rt: &R, alloc: Global, words: &[&str]) -> Result<Left, Fail> {
-    let mut bytes = black_pages(alloc, 3)?;
-    bytes.truncate(5397);
-    Ok(run_bytes(rt, alloc, words, bytes, no_files(alloc))?)
-}
+// Two black pages and a cut header of a third.
+const CUT: Given = Given::Cut(&[BLACK, BLACK, BLACK], 5397);
 
-#[test]
-fn a_cut_third_header_leaves_two_pages(rt: HostRuntime) -> Result<(), Fail> {
-    const LINE: &[u8] = b"input: page 3 line 0: Truncated\n";
-    let left = print_cut(&rt, rt.alloc(), &TINY)?;
-    leaves_parts(&rt, rt.alloc(), &left, (3, &[&TINY_JOB, &TINY_JOB], LINE))?;
-    let left = print_cut(&rt, rt.alloc(), &PRINT)?;
-    let (status, out, line) = left.all();
-    let found = (status, line, out.len(), hash_of(out));
-    assert!(rt; found == (3, LINE, 336, 0x1F14_3BBC_B886_76ED), "{found:?}");
-    Ok(())
-}
+const CUT_LINE: &[u8] = b"input: page 3 line 0: Truncated\n";
 
-#[test]
-fn sixteen_bits_and_a_short_page_are_refused(rt: HostRuntime) -> Result<(), Fail> {
-    const SHORT: [PageRow; 1] = [(
-        Kind::Gray8,
-        (8, 4),
-        &[3, 7, 0],
+const CUT_HEADERS: [Row; 1] = [(&TINY, CUT, (3, &[&TINY_JOB, &TINY_JOB], CUT_LINE))];
+
+// A page of 16 bits a colour, and a page shorter than the margins.
+const REFUSED: [Row; 2] = [
+    (
+        &TINY,
+        Given::Changed(&[BLACK], &[(391, 16), (395, 16), (399, 16)]),
+        (3, &[], b"input: page 1 line 0: Kind\n"),
+    ),
+    (
+        &TINY,
+        Given::Pages(&[], &[(Kind::Gray8, (8, 4), &[3, 7, 0])]),
         (3, &[], b"input: page 1 line 0: Height\n"),
+    ),
+];
+
+#[test]
+fn heads_of_one_and_of_three_nozzles_print_each_stream(rt: HostRuntime) -> Result<(), Fail> {
+    const TABLES: [Table; 6] = [
+        ("tiny prints ninety-two bytes", &NINETY_TWO_BYTES),
+        ("a stream without a page prints nothing", &WITHOUT_A_PAGE),
+        ("a short input is bad sync", &SHORT_INPUTS),
+        ("one nozzle prints three rasters", &ONE_NOZZLE),
+        ("a cut third header leaves two pages", &CUT_HEADERS),
+        ("sixteen bits and a short page are refused", &REFUSED),
+    ];
+    const CUT_BY_ONE: [HashRow; 1] = [(
+        "a cut third header leaves two pages",
+        &PRINT,
+        CUT,
+        (3, CUT_LINE, 336, 0x1F14_3BBC_B886_76ED),
     )];
-    let mut bytes = black_pages(rt.alloc(), 1)?;
-    change(&mut bytes, &[(391, 16), (395, 16), (399, 16)]);
-    let left = run_bytes(&rt, rt.alloc(), &TINY, bytes, no_files(rt.alloc()))?;
-    leaves(&rt, &left, (3, b"", b"input: page 1 line 0: Kind\n"));
-    try_pages(&rt, rt.alloc(), &TINY, &[], &SHORT)
+    try_tables(&rt, rt.alloc(), &TABLES)?;
+    try_hashes(&rt, rt.alloc(), &CUT_BY_ONE)
 }
 
 // The built-in printer of that name.
@@ -151,7 +151,12 @@ fn plays_a4<R: Abort + Threads + Sync>(
     let room = sink(alloc, 6_077_848)?;
     let words = ["dots", "profile=p360cmyk"];
     let images = run_over(rt, alloc, &words, job, room, no_files(alloc))?;
-    hashes_to(rt, &images, 6_077_848, hash);
+    hashes_to(
+        rt,
+        "the images of a page",
+        &images,
+        (0, b"", 6_077_848, hash),
+    );
     Ok(())
 }
 
@@ -169,15 +174,6 @@ fn print_a4<R: Abort + Threads + Sync>(
     Ok(run_bytes(rt, alloc, &words, page, no_files(alloc))?)
 }
 
-#[test]
-fn a_black_a4_takes_277_rasters(rt: HostRuntime) -> Result<(), Fail> {
-    let left = print_a4(&rt, rt.alloc(), 0, 0x81C3_9434_9E4F_387E)?;
-    hashes_to(&rt, &left, 38_413, 0xAC5A_E1A3_CCA8_296C);
-    let found = fired(rt.alloc(), left.out.bytes())?;
-    assert!(rt; found == (1, 277, [11_800_854, 0, 0, 0]), "{found:?}");
-    plays_a4(&rt, rt.alloc(), left.out.bytes(), 0xB9F9_D3F8_92E0_C969)
-}
-
 // The job of a white A4 page.
 const WHITE_A4: [u8; 49] = [
     0x1B, 0x40, 0x1B, 0x28, 0x47, 1, 0, 1, 0x1B, 0x28, 0x55, 1, 0, 5, 0x1B, 0x28, 0x69, 1, 0, 0,
@@ -186,8 +182,18 @@ const WHITE_A4: [u8; 49] = [
 ];
 
 #[test]
-fn a_white_a4_is_forty_nine_bytes(rt: HostRuntime) -> Result<(), Fail> {
-    let left = print_a4(&rt, rt.alloc(), 0xFF, 0x8657_F188_D501_119E)?;
-    leaves(&rt, &left, (0, &WHITE_A4, b""));
+fn a_black_a4_takes_277_rasters_and_a_white_one_49_bytes(rt: HostRuntime) -> Result<(), Fail> {
+    let black = print_a4(&rt, rt.alloc(), 0, 0x81C3_9434_9E4F_387E)?;
+    hashes_to(
+        &rt,
+        "a black page",
+        &black,
+        (0, b"", 38_413, 0xAC5A_E1A3_CCA8_296C),
+    );
+    let found = fired(rt.alloc(), black.out.bytes())?;
+    assert!(rt; found == (1, 277, [11_800_854, 0, 0, 0]), "{found:?}");
+    plays_a4(&rt, rt.alloc(), black.out.bytes(), 0xB9F9_D3F8_92E0_C969)?;
+    let white = print_a4(&rt, rt.alloc(), 0xFF, 0x8657_F188_D501_119E)?;
+    leaves(&rt, "a white page", &white, (0, &WHITE_A4, b""));
     Ok(())
 }

@@ -1,5 +1,5 @@
-//! Tests of pages on paper: of what is made of a page's pixels, and of the writer of pages, by one worker and by
-//! several, with the interleaved and the shingled passes and the strokes of heads with dead nozzles that it writes.
+//! Tests of pages on paper: of what is made of a page's pixels, and of the writer of pages, with one worker and with
+//! several. The writer is tested with interleaved passes, shingled passes, and the strokes of heads with dead nozzles.
 #![tactic(auto)]
 
 #[cfg(test)]

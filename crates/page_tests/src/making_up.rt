@@ -15,11 +15,20 @@ use std::test::Fail;
 fn what_is_wrong_is_told(rt: HostRuntime) {
     let all = Err(DeadFault::AllDead { nozzles: 3 });
     let outside = Err(DeadFault::NoSuchNozzle { nozzle: 3 });
-    same(&rt, "none", &check_dead(3, &[]), &Ok(()));
-    same(&rt, "two", &check_dead(3, &[0, 2]), &Ok(()));
-    same(&rt, "all", &check_dead(3, &[0, 1, 2]), &all);
-    same(&rt, "no nozzle", &check_dead(3, &[1, 3, 9]), &outside);
-    same(&rt, "all and more", &check_dead(3, &[0, 1, 2, 3]), &outside);
+    let found = [
+        check_dead(3, &[]),
+        check_dead(3, &[0, 2]),
+        check_dead(3, &[0, 1, 2]),
+        check_dead(3, &[1, 3, 9]),
+        check_dead(3, &[0, 1, 2, 3]),
+    ];
+    let wanted = [Ok(()), Ok(()), all, outside, outside];
+    same(
+        &rt,
+        "none, two, all, no nozzle, all and more",
+        &found,
+        &wanted,
+    );
 }
 
 // The starts of the strokes, and the rows under their nozzles, stroke by stroke.

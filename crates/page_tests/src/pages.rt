@@ -1,4 +1,4 @@
-//! Pages of windows under a head, and what writing them gives.
+//! Pages of windows under a head, and the results of writing them.
 ghost use Rattle.base_definitions.specs.Limits.{most_columns, most_rows};
 ghost use Rattle.dead_nozzles.specs.Dead.{IsRising};
 ghost use Rattle.std.specs.Prelude.{IfOk, ◌≡◌, ◌≤◌};

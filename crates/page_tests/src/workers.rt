@@ -1,4 +1,4 @@
-//! Pages that several workers code: the same bytes as by one, and the same writes where a sink fails.
+//! Pages that several workers code: the same bytes as by one worker, and the same writes if a sink fails.
 use crate::pages::{Dots, Page, Way, write};
 use page_writer::WriteStop;
 use std::alloc::Global;

@@ -5,7 +5,9 @@ use page_writer::{PageSum, WriteStop};
 use std::test::Fail;
 
 #[test]
-fn the_black_window_takes_four_writes(rt: HostRuntime) -> Result<(), Fail> {
+fn the_black_window_takes_four_writes_and_a_blank_page_forty_nine_bytes(
+    rt: HostRuntime,
+) -> Result<(), Fail> {
     const PAGE: Page = (Way::Plain, (3, 2), (8, 2), Dots::Black);
     const WHOLE: Result<PageSum, WriteStop> = Ok(PageSum {
         bytes: 92,
@@ -18,11 +20,7 @@ fn the_black_window_takes_four_writes(rt: HostRuntime) -> Result<(), Fail> {
         (3, (Err(WriteStop::Write), 64, true)),
         (5, (WHOLE, 92, true)),
     ];
-    writes_to(&rt, rt.alloc(), PAGE, &[], &TINY_JOB, &CASES)
-}
-
-#[test]
-fn a_blank_page_is_forty_nine_bytes(rt: HostRuntime) -> Result<(), Fail> {
-    let page = (Way::Plain, (3, 2), (8, 2), Dots::Mixed(0, 2, 2));
-    sums_to(&rt, rt.alloc(), page, &[], (49, 0))
+    writes_to(&rt, rt.alloc(), PAGE, &[], &TINY_JOB, &CASES)?;
+    let blank = (Way::Plain, (3, 2), (8, 2), Dots::Mixed(0, 2, 2));
+    sums_to(&rt, rt.alloc(), blank, &[], (49, 0))
 }

@@ -42,14 +42,15 @@ fn same_jobs(rt: &impl Abort, at: &str, jobs: &[SpoolJob], wanted: &[Shown]) {
 #[test]
 fn the_queue_keeps_its_order_on_one_thread(rt: HostRuntime) -> Result<(), Fail> {
     let alloc = rt.alloc();
+    let (seven, eight, nine) = (stream(alloc, 7)?, stream(alloc, 8)?, stream(alloc, 9)?);
     let Ok((spool, mut senders, mut printer)) = Spool::make(alloc, 1, 2) else {
         panic!(rt; "memory");
     };
     let first = &mut senders[0];
-    let one = spool.submit(&rt, first, stream(alloc, 7)?);
-    let two = spool.submit(&rt, first, stream(alloc, 8)?);
+    let one = spool.submit(&rt, first, seven);
+    let two = spool.submit(&rt, first, eight);
     let job = spool.take(&rt, &mut printer);
-    let three = spool.submit(&rt, first, stream(alloc, 9)?);
+    let three = spool.submit(&rt, first, nine);
     same(&rt, "submit", &(one, two, three), &(1, 2, 3));
     same(&rt, "take", &shown(&job), &(1, 1, Some(7)));
     same(&rt, "the lists", &(first.sent(), printer.taken()), &(3, 1));
@@ -66,12 +67,13 @@ fn the_queue_keeps_its_order_on_one_thread(rt: HostRuntime) -> Result<(), Fail> 
 #[test]
 fn jobs_of_two_senders_are_left_as_they_came(rt: HostRuntime) -> Result<(), Fail> {
     let alloc = rt.alloc();
+    let (seven, eight, nine) = (stream(alloc, 7)?, stream(alloc, 8)?, stream(alloc, 9)?);
     let Ok((spool, mut senders, printer)) = Spool::make(alloc, 2, 3) else {
         panic!(rt; "memory");
     };
-    spool.submit(&rt, &mut senders[1], stream(alloc, 7)?);
-    spool.submit(&rt, &mut senders[0], stream(alloc, 8)?);
-    spool.submit(&rt, &mut senders[1], stream(alloc, 9)?);
+    spool.submit(&rt, &mut senders[1], seven);
+    spool.submit(&rt, &mut senders[0], eight);
+    spool.submit(&rt, &mut senders[1], nine);
     let rest = spool.finish(&rt, senders, printer);
     same_jobs(
         &rt,

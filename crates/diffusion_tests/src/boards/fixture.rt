@@ -6,61 +6,35 @@ ghost use Rattle.tile_border.specs.Tops.{IsTopOf};
 ghost use Rattle.tile_shape.specs.Geometry.{IsShape, IsTile};
 ghost use Rattle.tile_shape.specs.declared.tiles.Place.{Place};
 
-use super::{finish, level_rows, same};
+use super::finish;
+use crate::checks::same;
+use crate::fills::amounts;
+use crate::windows::top_of;
 use diffusion_kernel::Kernel;
 use dot_planes::InkRows;
-use plain_diffusion::{Above, Amounts, Definition, amount_at};
+use plain_diffusion::{Above, Amounts, Definition};
 use std::alloc::Global;
 use tile_board::{Board, Claim, Closed, Pass};
 use tile_border::{Task, TopEdges};
 use tile_shape::{Place, Shape};
 
-// `height` rows of a window from row `first` on, whose amounts vary from pixel to pixel.
-fn amounts(alloc: Global, width: u32, first: u32, height: u32, inks: u8) -> Option<InkRows>
-    ensures width { IfSome result (λ rows. rows.width ≡ width) }
-    ensures inks { IfSome result (λ rows. rows.inks ≡ inks) }
+// Claims a tile, and works and posts it if it is handed out. Else whether it is gone, and its word.
+fn refusal(board: &Board<'_, InkRows>, p: &mut Pass, t: Place) -> Option<(bool, u64)>
+    requires tile { IsTile (shape_of (slab board.now)) t }
+    requires pass { IsPassOf board.now p.old }
+    requires idle { (view p.old).held ≡ None }
+    ensures pass { IsPassOf board.now p.new }
+    ensures idle { (view p.new).held ≡ None }
+    ensures number { (view p.new).number ≡ (view p.old).number }
 {
-    if width < 1 || width > 200 || height < 1 || height > 300 || inks < 1 || inks > 4 {
-        return None;
-    }
-    let Ok(mut rows) = InkRows::make(alloc, width, height, inks) else {
-        return None;
-    };
-    for i in 0..inks {
-        for y in 0..height {
-            set_row(&mut rows, i, first, y);
+    match board.claim(p, t) {
+        Claim::Got(task) => {
+            let done = board.work(task);
+            board.post(p, done);
+            None
         }
-    }
-    Some(rows)
-}
-
-fn set_row(rows: &mut InkRows, i: u8, first: u32, y: u32)
-    ensures width { rows.new.width ≡ rows.old.width }
-    ensures inks { rows.new.inks ≡ rows.old.inks }
-{
-    for x in 0..rows.width() {
-        if i < rows.inks() && y < rows.rows() && x < rows.width() {
-            rows.set(
-                i,
-                x,
-                y,
-                amount_at(Amounts::Mixed(i), x, first.wrapping_add(y)),
-            );
-        }
-    }
-}
-
-// A top of errors 0.
-fn no_errors(alloc: Global, rows: &InkRows, inks: u8) -> Option<TopEdges>
-    requires { inks ≡ rows.now.inks }
-    ensures { IfSome result (IsTopOf rows.now.width rows.now.inks) }
-{
-    if inks < 1 || inks > 4 {
-        return None;
-    }
-    match TopEdges::zero(alloc, rows.shape().columns(), inks) {
-        Ok(top) => Some(top),
-        Err(_) => None,
+        Claim::NotReady { word } => Some((false, word)),
+        Claim::Gone { word } => Some((true, word)),
     }
 }
 
@@ -80,14 +54,9 @@ fn try_tile(board: &Board<'_, InkRows>, shape: Shape, p: &mut Pass, n: u32) -> O
         c: n % columns,
         j: n / columns % shape.bands(),
     };
-    match board.claim(p, t) {
-        Claim::Got(task) => {
-            let done = board.work(task);
-            board.post(p, done);
-            None
-        }
-        Claim::NotReady { word } => Some(word),
-        Claim::Gone { .. } => None,
+    match refusal(board, p, t) {
+        Some((false, word)) => Some(word),
+        _ => None,
     }
 }
 
@@ -189,39 +158,41 @@ fn wrong_dots(closed: &Closed, shape: Shape, known: &Definition, i: u8, first: u
     wrong
 }
 
-// An ink of a window below errors 0.
-fn definition(alloc: Global, kernel: Kernel, i: u8, width: u32, height: u32) -> Option<Definition> {
-    let (fill, above) = (Amounts::Mixed(i), Above::Edges(0));
-    Definition::make(alloc, kernel, fill, above, width, height)
+// A window: its kernel, its columns, its rows below the first 32, its inks, and how many passes its boards have beside
+// the first.
+type Window = (Kernel, u32, u32, u8, u8);
+
+// Diffuses rows of a window from row `first` on by a board below a top. How many dots are wrong, and the top of the
+// rows below.
+fn wrong_in_slab(
+    alloc: Global,
+    window: Window,
+    top: TopEdges,
+    first: u32,
+    height: u32,
+) -> Option<(u32, TopEdges)>
+    requires { IsTopOf window.1 window.3 top }
+    ensures { IfSome result (λ r. IsTopOf window.1 window.3 r.1) }
+{
+    let (kernel, width, below, inks, passes) = window;
+    let rows = amounts(alloc, None, width, inks, first, height)?;
+    let closed = diffuse(alloc, kernel, &rows, top, passes)?;
+    let mut wrong = 0u32;
+    for i in 0..inks {
+        let (fill, above) = (Amounts::Mixed(i), Above::Edges(0));
+        let known = Definition::make(alloc, kernel, fill, above, width, below.saturating_add(32))?;
+        wrong = wrong.wrapping_add(wrong_dots(&closed, rows.shape(), &known, i, first));
+    }
+    Some((wrong, closed.bottom))
 }
 
 // How many dots are wrong in a window whose first 32 rows are one board and the rest another below it.
-fn wrong_in_slabs(
-    alloc: Global,
-    kernel: Kernel,
-    width: u32,
-    height: u32,
-    inks: u8,
-    passes: u8,
-) -> Option<u32> {
-    if height > 300 {
-        return None;
-    }
-    let rows = amounts(alloc, width, 0, 32, inks)?;
-    let rest = amounts(alloc, width, 32, height, inks)?;
-    let top = no_errors(alloc, &rows, inks)?;
-    let upper = diffuse(alloc, kernel, &rows, top, passes)?;
-    let mut wrong = 0u32;
-    for i in 0..inks {
-        let known = definition(alloc, kernel, i, width, 32 + height)?;
-        wrong = wrong.wrapping_add(wrong_dots(&upper, rows.shape(), &known, i, 0));
-    }
-    let lower = diffuse(alloc, kernel, &rest, upper.bottom, passes)?;
-    for i in 0..inks {
-        let known = definition(alloc, kernel, i, width, 32 + height)?;
-        wrong = wrong.wrapping_add(wrong_dots(&lower, rest.shape(), &known, i, 32));
-    }
-    Some(wrong)
+fn wrong_in_slabs(alloc: Global, window: Window) -> Option<u32> {
+    let (_, width, below, inks, _) = window;
+    let top = top_of(alloc, width, inks, 0)?;
+    let (upper, top) = wrong_in_slab(alloc, window, top, 0, 32)?;
+    let (lower, _bottom) = wrong_in_slab(alloc, window, top, 32, below)?;
+    Some(upper.wrapping_add(lower))
 }
 
 #[test]
@@ -236,7 +207,8 @@ fn boards_give_the_dots_of_the_whole_window(rt: HostRuntime) {
     ];
     for kernel in [Kernel::Floyd, Kernel::Stucki] {
         for (width, height, inks, passes) in windows {
-            let wrong = wrong_in_slabs(rt.alloc(), kernel, width, height, inks, passes);
+            let window = (kernel, width, height, inks, passes);
+            let wrong = wrong_in_slabs(rt.alloc(), window);
             assert!(rt;
                 wrong == Some(0),
                 "{kernel:?} at {width} by {height}, {passes} passes"
@@ -251,75 +223,58 @@ fn is_handed_zeros(task: &Task) -> bool
     requires above { 1 ≤ length task.now.above }
     requires corner { 1 ≤ length task.now.corner }
 {
-    task.left.ink(0).iter().all(|e| *e == 0)
-        && task.above.ink(0).iter().all(|e| *e == 0)
-        && task.corner.ink(0).iter().all(|e| *e == 0)
+    *task.left.ink(0) == [0; 192]
+        && *task.above.ink(0) == [0; 128]
+        && *task.corner.ink(0) == [0; 12]
 }
 
-// Claims a tile that is not to be handed out: whether it is gone, and its word. `None` where it was handed out.
-fn refusal(board: &Board<'_, InkRows>, p: &mut Pass, t: Place) -> Option<(bool, u64)>
-    requires tile { IsTile (shape_of (slab board.now)) t }
-    requires pass { IsPassOf board.now p.old }
-    requires idle { (view p.old).held ≡ None }
-    ensures pass { IsPassOf board.now p.new }
-    ensures idle { IfSome result (λ _. (view p.new).held ≡ None) }
-{
-    match board.claim(p, t) {
-        Claim::Got(_) => None,
-        Claim::NotReady { word } => Some((false, word)),
-        Claim::Gone { word } => Some((true, word)),
-    }
-}
+// What two passes are told around the work on the first tile: refusals, and whether each error that it is handed is 0.
+// Then the parts of the passes, and the tiles that they hold.
+type Told = ([Option<(bool, u64)>; 4], bool, [u16; 2], [Option<Place>; 2]);
 
-// What two passes are told around the work on the first tile, and what they have after it.
-#[derive(Clone, Copy, Debug, PartialEq, Eq)]
-struct Told {
-    refusals: [(bool, u64); 4],
-    is_handed_zeros: bool,
-    parts: [u16; 2],
-    holds: [Option<Place>; 2],
-}
+const TOLD: Told = (
+    [
+        Some((false, 0)),
+        Some((true, 8)),
+        Some((false, 4)),
+        Some((true, 24)),
+    ],
+    true,
+    [255, 1],
+    [None, None],
+);
 
 fn tell(alloc: Global) -> Option<Told> {
-    let rows = level_rows(alloc)?;
-    let top = no_errors(alloc, &rows, 1)?;
+    let rows = amounts(alloc, Some(100), 200, 1, 0, 70)?;
+    let top = top_of(alloc, 200, 1, 0)?;
     let Ok((board, mut p)) = Board::make(alloc, &rows, Kernel::Floyd, top, Vec::new(alloc)) else {
         return None;
     };
     let mut q = board.split(&mut p);
-    let second = refusal(&board, &mut p, Place { c: 1, j: 0 })?;
+    let second = refusal(&board, &mut p, Place { c: 1, j: 0 });
     let Claim::Got(task) = board.claim(&mut p, Place { c: 0, j: 0 }) else {
         return None;
     };
     let is_handed_zeros = is_handed_zeros(&task);
-    let taken = refusal(&board, &mut q, Place { c: 0, j: 0 })?;
+    let taken = refusal(&board, &mut q, Place { c: 0, j: 0 });
     let done = board.work(task);
     board.post(&mut p, done);
-    let below = refusal(&board, &mut q, Place { c: 0, j: 1 })?;
-    let posted = refusal(&board, &mut q, Place { c: 0, j: 0 })?;
-    Some(Told {
-        refusals: [second, taken, below, posted],
+    let below = refusal(&board, &mut q, Place { c: 0, j: 1 });
+    let posted = refusal(&board, &mut q, Place { c: 0, j: 0 });
+    let parts = [p.parts(), q.parts()];
+    let holds = [p.holds(), q.holds()];
+    Some((
+        [second, taken, below, posted],
         is_handed_zeros,
-        parts: [p.parts(), q.parts()],
-        holds: [p.holds(), q.holds()],
-    })
-}
-
-#[test]
-fn claims_carry_the_word_they_found(rt: HostRuntime) {
-    let wanted = Told {
-        refusals: [(false, 0), (true, 8), (false, 4), (true, 24)],
-        is_handed_zeros: true,
-        parts: [255, 1],
-        holds: [None, None],
-    };
-    same(&rt, "two passes", &tell(rt.alloc()), &Some(wanted));
+        parts,
+        holds,
+    ))
 }
 
 // The words of the tile in column 1 of band 1, whose number is 6, before each of four other tiles is worked.
 fn words_before(alloc: Global, tiles: [u32; 4]) -> Option<[Option<u64>; 4]> {
-    let rows = level_rows(alloc)?;
-    let top = no_errors(alloc, &rows, 1)?;
+    let rows = amounts(alloc, Some(100), 200, 1, 0, 70)?;
+    let top = top_of(alloc, 200, 1, 0)?;
     let Ok((board, mut p)) = Board::make(alloc, &rows, Kernel::Floyd, top, Vec::new(alloc)) else {
         return None;
     };
@@ -332,16 +287,18 @@ fn words_before(alloc: Global, tiles: [u32; 4]) -> Option<[Option<u64>; 4]> {
     Some(words)
 }
 
+// Four tiles, and the words of the tile with three needs: bit 4 comes from the tile above, 2 from the one above and to
+// the right, and 1 from the left.
+const WORDS: [([u32; 4], [Option<u64>; 4]); 2] = [
+    ([0, 1, 2, 5], [Some(0), Some(0), Some(4), Some(6)]),
+    ([0, 1, 5, 2], [Some(0), Some(0), Some(4), Some(5)]),
+];
+
 #[test]
-fn a_tile_with_three_needs_carries_each_word(rt: HostRuntime) {
-    // bit 4 comes from the tile above, 2 from the one above and to the right, and 1 from the left
-    for (tiles, words) in [([0, 1, 2, 5], [0, 0, 4, 6]), ([0, 1, 5, 2], [0, 0, 4, 5])] {
+fn claims_carry_the_word_they_found(rt: HostRuntime) {
+    same(&rt, "two passes", &tell(rt.alloc()), &Some(TOLD));
+    for &(tiles, words) in &WORDS {
         let found = words_before(rt.alloc(), tiles);
-        same(
-            &rt,
-            "a tile with three needs",
-            &found,
-            &Some(words.map(Some)),
-        );
+        same(&rt, "a tile with three needs", &found, &Some(words));
     }
 }

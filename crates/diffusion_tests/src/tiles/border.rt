@@ -3,7 +3,7 @@ ghost use Rattle.diffusion_definitions.specs.Diffusion.{InRange};
 ghost use Rattle.std.specs.Prelude.{IfOk, ◌<◌, ◌≡◌};
 ghost use Rattle.tile_border.specs.Works.{HasInks};
 
-use crate::tiles::checks::same;
+use crate::checks::same;
 use base_definitions::Memory;
 use diffusion_kernel::Kernel;
 use dot_planes::{InkRows, TileBits, TileDots};
@@ -59,10 +59,6 @@ fn light_and_dark(alloc: Global) -> Result<InkRows, Memory>
     Ok(rows)
 }
 
-fn is_all(errors: &[i16], error: i16) -> bool {
-    errors.iter().all(|e| *e == error)
-}
-
 // Whether an ink has one error in all that a tile hands on, and one byte in all its dots.
 fn gives(done: &Done, ink: u8, error: i16, dots: u8) -> bool
     requires inks { HasInks 2
@@ -74,10 +70,10 @@ fn gives(done: &Done, ink: u8, error: i16, dots: u8) -> bool
         }) }
     requires ink { ink < 2 }
 {
-    is_all(done.right.ink(ink), error)
-        && is_all(done.bottom.ink(ink), error)
-        && is_all(done.corner.ink(ink), error)
-        && done.dots.bits.ink(ink).iter().all(|byte| *byte == dots)
+    *done.right.ink(ink) == [error; 192]
+        && *done.bottom.ink(ink) == [error; 128]
+        && *done.corner.ink(ink) == [error; 12]
+        && *done.dots.bits.ink(ink) == [dots; 256]
 }
 
 // Works a tile within a light and a dark ink, handed the greatest error in the one and the least in the other.
@@ -125,13 +121,20 @@ fn work_one_pixel(alloc: Global) -> Result<Done, Memory>
 fn a_window_of_one_pixel_has_a_dot_from_128_on(rt: HostRuntime) -> Result<(), Fail> {
     let done = work_one_pixel(rt.alloc())?;
     let is_light = gives(&done, 0, 0, 0);
-    let is_dark = is_all(done.right.ink(1), 0) && is_all(done.bottom.ink(1), 0);
-    same(&rt, "the errors", &(is_light, is_dark), &(true, true));
+    let is_dark = *done.right.ink(1) == [0; 192] && *done.bottom.ink(1) == [0; 128];
     let mut dots = [0; 256];
     dots[0] = 0x80;
-    same(&rt, "the dots of 128", done.dots.bits.ink(1), &dots);
+    let found = (is_light, is_dark, *done.dots.bits.ink(1));
+    same(
+        &rt,
+        "the errors and the dots of 128",
+        &found,
+        &(true, true, dots),
+    );
     Ok(())
 }
+
+const ENDS: [i16; 12] = [5, 0, 0, 0, 0, 0, 0, 0, 0, 0, 0, -7];
 
 #[test]
 fn top_edges_are_put_by_column(rt: HostRuntime) -> Result<(), Fail> {
@@ -141,22 +144,12 @@ fn top_edges_are_put_by_column(rt: HostRuntime) -> Result<(), Fail> {
     errors[58] = 5;
     errors[127] = -7;
     edge.put(1, &errors);
-    let found = (edge.inks(), edge.ends(1));
-    same(
-        &rt,
-        "an edge",
-        &found,
-        &(2, [5, 0, 0, 0, 0, 0, 0, 0, 0, 0, 0, -7]),
-    );
+    let (inks, ends) = (edge.inks(), edge.ends(1));
     top.put(1, edge);
-    let is_kept = is_all(top.at(0).ink(1), 0)
-        && is_all(top.at(2).ink(1), 0)
-        && is_all(top.at(1).ink(0), 0);
-    same(
-        &rt,
-        "the top",
-        &(is_kept, top.at(1).ink(1)[127]),
-        &(true, -7),
-    );
+    let is_kept = *top.at(0).ink(1) == [0; 128]
+        && *top.at(2).ink(1) == [0; 128]
+        && *top.at(1).ink(0) == [0; 128];
+    let found = (inks, ends, is_kept, top.at(1).ink(1)[127]);
+    same(&rt, "an edge, and the top", &found, &(2, ENDS, true, -7));
     Ok(())
 }

@@ -1,5 +1,5 @@
 //! A tile's dots, made with ample memory.
-use crate::tiles::checks::same;
+use crate::checks::same;
 use dot_planes::TileBits;
 use std::test::Fail;
 

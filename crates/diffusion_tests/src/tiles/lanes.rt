@@ -4,13 +4,13 @@ ghost use Rattle.std.specs.Prelude.{true, ◌<◌, ◌≡◌};
 ghost use Rattle.tile_lanes.specs.Done.{window_of};
 ghost use Rattle.tile_shape.specs.Geometry.{IsTile};
 
-use crate::tiles::checks::same;
+use crate::checks::same;
+use crate::fills::{amounts, fill_of};
 use base_definitions::MOST_COLUMNS;
 use diffusion_kernel::Kernel;
 use dot_planes::{InkRows, TILE_BYTES, TileAmounts, TileRows};
-use plain_diffusion::{Above, Amounts, Definition, amount_at};
+use plain_diffusion::{Above, Definition};
 use std::alloc::Global;
-use std::test::Fail;
 use tile_lanes::diffuse_tile;
 use tile_shape::Place;
 
@@ -59,7 +59,7 @@ const LOWER_CORNER: Block = Block {
 };
 
 // What a tile is handed, or hands on.
-#[derive(Clone, Copy, PartialEq, Eq)]
+#[derive(Clone, Copy)]
 struct Edges {
     side: [i16; 192],
     bottom: [i16; 128],
@@ -168,7 +168,7 @@ fn is_tile(rows: &InkRows, place: Place) -> bool
 }
 
 // What a tile gives for what it is handed.
-#[derive(Clone, Copy, PartialEq, Eq)]
+#[derive(Clone, Copy)]
 struct Given {
     edges: Edges,
     dots: [u8; 256],
@@ -310,32 +310,20 @@ fn is_right(known: &Definition, kernel: Kernel, place: Place, rows: &InkRows) ->
         && has_dots(known, place, &given.dots)
 }
 
-fn set_amounts(rows: &mut InkRows, fill: Amounts) {
-    for y in 0..rows.rows() {
-        for x in 0..rows.width() {
-            if x < rows.width() && y < rows.rows() && rows.inks() > 0 {
-                rows.set(0, x, y, amount_at(fill, x, y));
-            }
-        }
-    }
-}
-
 // How many tiles of a window are wrong, or `None` where there is no memory.
 fn wrong_tiles(
     alloc: Global,
     kernel: Kernel,
-    fill: Amounts,
+    all: Option<u8>,
     width: u32,
     height: u32,
 ) -> Option<u32> {
     if width < 1 || width > 200 || height < 1 || height > 70 {
         return None;
     }
+    let fill = fill_of(all, 0);
     let known = Definition::make(alloc, kernel, fill, Above::Mixed, width, height)?;
-    let Ok(mut rows) = InkRows::make(alloc, width, height, 1) else {
-        return None;
-    };
-    set_amounts(&mut rows, fill);
+    let rows = amounts(alloc, all, width, 1, 0, height)?;
     let mut wrong = 0u32;
     for j in 0..height.div_ceil(32) {
         for c in 0..(width + 62).div_ceil(64) {
@@ -352,38 +340,41 @@ fn tiles_of_every_cut_have_the_errors_and_dots_of_the_rule(rt: HostRuntime) {
     for kernel in [Kernel::Floyd, Kernel::Jarvis, Kernel::Stucki] {
         for width in [1, 2, 63, 64, 65, 130, 200] {
             for height in [1, 31, 32, 33, 70] {
-                let wrong = wrong_tiles(rt.alloc(), kernel, Amounts::Mixed(0), width, height);
+                let wrong = wrong_tiles(rt.alloc(), kernel, None, width, height);
                 assert!(rt; wrong == Some(0), "{kernel:?} at {width} by {height}");
             }
         }
-    }
-}
-
-#[test]
-fn even_amounts_have_the_errors_and_dots_of_the_rule(rt: HostRuntime) {
-    for kernel in [Kernel::Floyd, Kernel::Jarvis, Kernel::Stucki] {
         for amount in [0, 127, 128, 255] {
-            let wrong = wrong_tiles(rt.alloc(), kernel, Amounts::All(amount), 199, 69);
+            let wrong = wrong_tiles(rt.alloc(), kernel, Some(amount), 199, 69);
             assert!(rt; wrong == Some(0), "{kernel:?} of {amount}");
         }
     }
 }
 
-// Whether a tile at a place whose edges all have one error has the errors and dots of the rule.
-fn is_right_at(kernel: Kernel, place: Place, rows: &InkRows, error: i32) -> bool {
-    if !is_tile(rows, place) {
-        return false;
+// Whether a tile of 150 columns and 40 rows, at a place where its edges all have one error, has the errors and dots of
+// the rule. `None` where there is no memory, or no tile.
+fn is_right_at(
+    alloc: Global,
+    kernel: Kernel,
+    all: Option<u8>,
+    place: Place,
+    error: i32,
+) -> Option<bool> {
+    let rows = amounts(alloc, all, 150, 1, 0, 40)?;
+    if !is_tile(&rows, place) {
+        return None;
     }
     let mut edges = no_edges();
     fill_all(&mut edges.side, error);
     fill_all(&mut edges.bottom, error);
     fill_all(&mut edges.corner, error);
-    let wanted = worked(kernel, place, rows, &edges);
-    let given = diffused(kernel, place, rows, edges);
-    wanted.has(RIGHT, &given.edges.side)
+    let wanted = worked(kernel, place, &rows, &edges);
+    let given = diffused(kernel, place, &rows, edges);
+    let is_right = wanted.has(RIGHT, &given.edges.side)
         && wanted.has(BOTTOM, &given.edges.bottom)
         && wanted.has(LOWER_CORNER, &given.edges.corner)
-        && wanted.dots == given.dots
+        && wanted.dots == given.dots;
+    Some(is_right)
 }
 
 // A tile's column and band, and the error of all its edges.
@@ -397,31 +388,30 @@ const EXTREMES: [(u32, u32, i32); 6] = [
 ];
 
 #[test]
-fn the_least_and_greatest_errors_have_the_errors_and_dots_of_the_rule(
-    rt: HostRuntime,
-) -> Result<(), Fail> {
-    let mut rows = InkRows::make(rt.alloc(), 150, 40, 1)?;
-    for fill in [Amounts::Mixed(0), Amounts::All(0), Amounts::All(255)] {
-        set_amounts(&mut rows, fill);
+fn the_least_and_greatest_errors_have_the_errors_and_dots_of_the_rule(rt: HostRuntime) {
+    for all in [None, Some(0), Some(255)] {
         for kernel in [Kernel::Floyd, Kernel::Jarvis, Kernel::Stucki] {
             for &(c, j, error) in &EXTREMES {
-                let is_right = is_right_at(kernel, Place { c, j }, &rows, error);
-                assert!(rt; is_right, "{kernel:?} of {fill:?} at {c}, {j}");
+                let found = is_right_at(rt.alloc(), kernel, all, Place { c, j }, error);
+                assert!(rt; found == Some(true), "{kernel:?} of {all:?} at {c}, {j}");
             }
         }
     }
-    Ok(())
+}
+
+// The dots of the tile of four halves below errors 0.
+fn dots_of_halves(alloc: Global) -> Option<[u8; 256]> {
+    let rows = amounts(alloc, Some(128), 4, 1, 0, 1)?;
+    let place = Place { c: 0, j: 0 };
+    if !is_tile(&rows, place) {
+        return None;
+    }
+    Some(diffused(Kernel::Floyd, place, &rows, no_edges()).dots)
 }
 
 #[test]
-fn four_halves_give_every_other_dot(rt: HostRuntime) -> Result<(), Fail> {
-    let mut rows = InkRows::make(rt.alloc(), 4, 1, 1)?;
-    set_amounts(&mut rows, Amounts::All(128));
-    let place = Place { c: 0, j: 0 };
-    assert!(rt; is_tile(&rows, place));
-    let given = diffused(Kernel::Floyd, place, &rows, no_edges());
+fn four_halves_give_every_other_dot(rt: HostRuntime) {
     let mut want = [0u8; 256];
     want[0] = 0xA0;
-    same(&rt, "the dots", &given.dots, &want);
-    Ok(())
+    same(&rt, "the dots", &dots_of_halves(rt.alloc()), &Some(want));
 }

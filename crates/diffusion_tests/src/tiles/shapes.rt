@@ -2,7 +2,7 @@
 ghost use Rattle.std.specs.Prelude.{IsTrue};
 ghost use Rattle.tile_shape.specs.Geometry.{IsShape};
 
-use crate::tiles::checks::same;
+use crate::checks::same;
 use base_definitions::{MOST_COLUMNS, MOST_ROWS};
 use tile_shape::{Dir, Place, Shape};
 
@@ -136,38 +136,40 @@ const GIVE_BOTTOM: [[u8; 5]; 3] = [[0, 1, 1, 1, 1], [0, 1, 1, 1, 1], [0, 0, 0, 0
 
 const GIVE_CORNER: [[u8; 5]; 3] = [[1, 1, 1, 1, 1], [1, 1, 1, 1, 1], [0, 0, 0, 0, 0]];
 
-// Three tables at a band and a column.
-fn entries(tables: [[[u8; 5]; 3]; 3], c: u32, j: u32) -> [u8; 3] {
+// What a tile of the window needs from its left, from above and at the corner, and gives to the right, below and at
+// the corner.
+const TABLES: [[[u8; 5]; 3]; 6] = [
+    NEED_LEFT,
+    NEED_ABOVE,
+    NEED_CORNER,
+    GIVE_RIGHT,
+    GIVE_BOTTOM,
+    GIVE_CORNER,
+];
+
+// The tables at a band and a column.
+fn entries(c: u32, j: u32) -> [u8; 6] {
     let (c, j) = (c as usize % 5, j as usize % 3);
-    [tables[0][j][c], tables[1][j][c], tables[2][j][c]]
+    let mut entries = [0; 6];
+    for n in 0..6 {
+        entries[n] = TABLES[n][j][c];
+    }
+    entries
 }
 
 #[test]
-fn each_tile_of_200_by_70_needs_what_the_table_says(rt: HostRuntime) {
+fn each_tile_of_200_by_70_needs_and_gives_what_the_tables_say(rt: HostRuntime) {
     for n in 0..15 {
-        let (c, j) = (n % 5, n / 5);
-        let needs = SHAPE.needs(Place { c, j });
+        let place = Place { c: n % 5, j: n / 5 };
+        let needs = SHAPE.needs(place);
         let found = [
             u8::from(needs.left),
             u8::from(needs.above),
             u8::from(needs.corner),
-        ];
-        let wanted = entries([NEED_LEFT, NEED_ABOVE, NEED_CORNER], c, j);
-        same(&rt, "the needs of a tile", &found, &wanted);
-    }
-}
-
-#[test]
-fn each_tile_of_200_by_70_gives_what_the_table_says(rt: HostRuntime) {
-    for n in 0..15 {
-        let (c, j) = (n % 5, n / 5);
-        let place = Place { c, j };
-        let found = [
             u8::from(SHAPE.next(place, Dir::Right).is_some()),
             u8::from(SHAPE.next(place, Dir::Bottom).is_some()),
             u8::from(SHAPE.next(place, Dir::Corner).is_some()),
         ];
-        let wanted = entries([GIVE_RIGHT, GIVE_BOTTOM, GIVE_CORNER], c, j);
-        same(&rt, "the edges of a tile", &found, &wanted);
+        assert!(rt; found == entries(place.c, place.j), "{place:?}: {found:?}");
     }
 }

@@ -3,7 +3,7 @@ ghost use Rattle.std.specs.Prelude.{IfOk, ◌≡◌};
 ghost use Rattle.board_steps.specs.Rule.{fresh_in};
 ghost use Rattle.board_steps.specs.Steps.{fresh_slots};
 
-use crate::tiles::checks::same;
+use crate::checks::same;
 use base_definitions::Memory;
 use board_steps::{Cell, Slab, look, open, take};
 use diffusion_kernel::Kernel;

@@ -1,7 +1,7 @@
 //! What runs are to leave, by the slow programs.
 use crate::faults::plain_head::add_job;
 use crate::faults::plain_stream::{StreamFault, read_stream};
-use job_fixtures::{PlainOutcome, listed, played};
+use job_fixtures::PlainOutcome;
 use std::alloc::{AllocError, Global};
 use weave_base::InkSet;
 
@@ -96,8 +96,8 @@ pub fn printed(alloc: Global, inks: InkSet, bytes: &[u8]) -> Result<Answer, Allo
     })
 }
 
-// What is left of a job with this outcome.
-fn left_of(alloc: Global, outcome: PlainOutcome) -> Result<Answer, AllocError> {
+/// What is left of listing a job, or of playing it, with this outcome.
+pub fn left_of(alloc: Global, outcome: PlainOutcome) -> Result<Answer, AllocError> {
     let (status, line, mends) = match outcome.stop {
         None => (0, String::new(alloc), true),
         Some((at, cause)) => (
@@ -113,14 +113,4 @@ fn left_of(alloc: Global, outcome: PlainOutcome) -> Result<Answer, AllocError> {
         line,
         mends,
     })
-}
-
-/// What is left of playing a job on the printer `tiny`.
-pub fn shown(alloc: Global, job: &[u8]) -> Result<Answer, AllocError> {
-    left_of(alloc, played(alloc, job)?)
-}
-
-/// What is left of listing a job.
-pub fn told(alloc: Global, job: &[u8]) -> Result<Answer, AllocError> {
-    left_of(alloc, listed(alloc, job)?)
 }

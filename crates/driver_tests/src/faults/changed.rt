@@ -27,7 +27,7 @@ fn try_byte<R: Abort + Threads + Sync>(
             *byte ^= change;
         }
         let wanted = command.answer(alloc, &bytes)?;
-        leaves(rt, alloc, command, &bytes, calls, &wanted)?;
+        leaves(rt, alloc, command.words(), &bytes, calls, &wanted)?;
     }
     Ok(())
 }

@@ -1,6 +1,6 @@
 //! Jobs that break two rules of the machine at once: the first of a command's refusals counts.
 use crate::faults::answers::Answer;
-use crate::faults::fixture::{BY_BYTES, DriverCommand, leaves, words_leave};
+use crate::faults::fixture::{BY_BYTES, leaves};
 use driver_fixtures::joined;
 use std::alloc::Global;
 use std::process::Abort;
@@ -20,26 +20,26 @@ const DOT: &[u8] = b"\x1B.\x00\x14\x0A\x03\x08\x00\x80\x00\x00";
 
 const RETURN: &[u8] = b"\x0D";
 
-// A job, by its parts, and the offset and the cause of its refusal.
-type Case = (&'static [&'static [u8]], u32, &'static str);
+// A job, by its parts, and the status and the error line that playing it leaves. No sheet is ejected.
+type Job = (&'static [&'static [u8]], u8, &'static str);
 
-const RASTERS: [Case; 10] = [
+const RASTERS: [Job; 10] = [
     // and NoUnit
-    (&[DOT], 0, "NotGraphics"),
-    (&[UNIT, DOT], 6, "NotGraphics"),
+    (&[DOT], 8, "job: offset 0: NotGraphics\n"),
+    (&[UNIT, DOT], 8, "job: offset 6: NotGraphics\n"),
     // and NoMargins
-    (&[GRAPHICS, DOT], 6, "NoUnit"),
+    (&[GRAPHICS, DOT], 8, "job: offset 6: NoUnit\n"),
     // and Density
     (
         &[GRAPHICS, UNIT, b"\x1B.\x00\x14\x05\x03\x08\x00\x80\x00\x00"],
-        12,
-        "NoMargins",
+        8,
+        "job: offset 12: NoMargins\n",
     ),
     // and Rows
     (
         &[SHEET, b"\x1B.\x00\x14\x05\x02\x08\x00\x80\x00"],
-        28,
-        "Density",
+        8,
+        "job: offset 28: Density\n",
     ),
     // and OffGrid
     (
@@ -48,19 +48,23 @@ const RASTERS: [Case; 10] = [
             b"\x1B$\x01\x00",
             b"\x1B.\x00\x14\x0A\x02\x08\x00\x80\x00",
         ],
-        32,
-        "Rows",
+        8,
+        "job: offset 32: Rows\n",
     ),
     // and OffSheet, past the last column and below the margin
-    (&[SHEET, b"\x1B$\xFF\x7F", DOT], 32, "OffGrid"),
+    (
+        &[SHEET, b"\x1B$\xFF\x7F", DOT],
+        8,
+        "job: offset 32: OffGrid\n",
+    ),
     (
         &[
             SHEET,
             b"\x1B(v\x02\x00\x01\x00",
             b"\x1B.\x00\x14\x0A\x03\x08\x00\x00\x00\x80",
         ],
-        35,
-        "OffGrid",
+        8,
+        "job: offset 35: OffGrid\n",
     ),
     // and Overprint, below the margin and past the last column
     (
@@ -70,8 +74,8 @@ const RASTERS: [Case; 10] = [
             RETURN,
             b"\x1B.\x00\x14\x0A\x03\x08\x00\x80\x00\x80",
         ],
-        40,
-        "OffSheet",
+        8,
+        "job: offset 40: OffSheet\n",
     ),
     (
         &[
@@ -80,54 +84,51 @@ const RASTERS: [Case; 10] = [
             b"\x1B$\xF0\x3F",
             DOT,
         ],
-        47,
-        "OffSheet",
+        8,
+        "job: offset 47: OffSheet\n",
     ),
 ];
 
-const OTHERS: [Case; 10] = [
+const OTHERS: [Job; 10] = [
     // Backward and OffSheet
-    (&[SHEET, DOT, b"\x1B(C\x02\x00\xFF\x7F"], 39, "Backward"),
+    (
+        &[SHEET, DOT, b"\x1B(C\x02\x00\xFF\x7F"],
+        8,
+        "job: offset 39: Backward\n",
+    ),
     (
         &[SHEET, DOT, b"\x1B(c\x04\x00\x00\x00\xFF\x7F"],
-        39,
-        "Backward",
+        8,
+        "job: offset 39: Backward\n",
     ),
     // NoUnit and NoMargins
-    (&[b"\x1B(c\x04\x00\x00\x00\x06\x00"], 0, "NoUnit"),
-    (&[b"\x1B(V\x02\x00\x02\x00"], 0, "NoUnit"),
-    (&[b"\x1B(v\x02\x00\x02\x00"], 0, "NoUnit"),
+    (
+        &[b"\x1B(c\x04\x00\x00\x00\x06\x00"],
+        8,
+        "job: offset 0: NoUnit\n",
+    ),
+    (&[b"\x1B(V\x02\x00\x02\x00"], 8, "job: offset 0: NoUnit\n"),
+    (&[b"\x1B(v\x02\x00\x02\x00"], 8, "job: offset 0: NoUnit\n"),
     // what is not a whole command is not run
-    (&[b"\x1B.\x01\x14\x0A\x03\x08\x00\x80"], 8, "RunCode"),
-    (&[b"\x1B.\x00\x14\x0A\x03\x08\x00\x80\x00"], 0, "Cut"),
-    (&[b"\x1B(c\x04\x00\x05\x00\x05\x00"], 7, "BadValue"),
+    (
+        &[b"\x1B.\x01\x14\x0A\x03\x08\x00\x80"],
+        8,
+        "job: offset 8: RunCode\n",
+    ),
+    (
+        &[b"\x1B.\x00\x14\x0A\x03\x08\x00\x80\x00"],
+        8,
+        "job: offset 0: Cut\n",
+    ),
+    (
+        &[b"\x1B(c\x04\x00\x05\x00\x05\x00"],
+        8,
+        "job: offset 7: BadValue\n",
+    ),
     // a refused command comes before the bytes behind it
-    (&[DOT, b"\x1BA"], 0, "NotGraphics"),
-    (&[SHEET, DOT, b"\x1B@\x1B"], 39, "Backward"),
+    (&[DOT, b"\x1BA"], 8, "job: offset 0: NotGraphics\n"),
+    (&[SHEET, DOT, b"\x1B@\x1B"], 8, "job: offset 39: Backward\n"),
 ];
-
-// Asserts that a job is refused before it ejects a sheet.
-fn refuses<R: Abort + Threads + Sync>(
-    rt: &R,
-    alloc: Global,
-    (parts, at, cause): Case,
-) -> Result<(), Fail> {
-    let line = format!(in alloc; "job: offset {at}: {cause}\n")?;
-    let wanted = Answer::of(alloc, 8, b"", &line)?;
-    let job = joined(alloc, parts)?;
-    leaves(rt, alloc, DriverCommand::Dots, &job, BY_BYTES, &wanted)
-}
-
-#[test]
-fn the_machine_refuses_in_its_order(rt: HostRuntime) -> Result<(), Fail> {
-    for &case in &RASTERS {
-        refuses(&rt, rt.alloc(), case)?;
-    }
-    for &case in &OTHERS {
-        refuses(&rt, rt.alloc(), case)?;
-    }
-    Ok(())
-}
 
 // The commands before the first raster of a black page of six rows.
 const PROLOGUE: &[u8] =
@@ -144,10 +145,7 @@ const TWO_ROWS: &[u8] = b"\x1B.\x00\x0A\x0A\x02\x08\x00\xFF\xFF";
 // Down to the bottom margin.
 const TO_MARGIN: &[u8] = b"\x1B(V\x02\x00\x0C\x00";
 
-// A job, by its parts, and the status and the error line that playing it on the printer `tiny1` leaves.
-type Played = (&'static [&'static [u8]], u8, &'static str);
-
-const PLAYED: [Played; 11] = [
+const BY_ONE: [Job; 11] = [
     (&[ROW], 8, "job: offset 0: NotGraphics\n"),
     (&[GRAPHICS, ROW], 8, "job: offset 6: NoUnit\n"),
     (&[GRAPHICS, UNIT, ROW], 8, "job: offset 12: NoMargins\n"),
@@ -181,13 +179,26 @@ const PLAYED: [Played; 11] = [
     ),
 ];
 
-#[test]
-fn a_head_of_one_nozzle_refuses_each_bad_place(rt: HostRuntime) -> Result<(), Fail> {
-    let (alloc, words) = (rt.alloc(), ["dots", "profile=tiny1"]);
-    for &(parts, status, line) in &PLAYED {
+// Asserts what playing each job on a printer leaves.
+fn try_jobs<R: Abort + Threads + Sync>(
+    rt: &R,
+    alloc: Global,
+    words: &[&str],
+    jobs: &[Job],
+) -> Result<(), Fail> {
+    for (parts, status, line) in jobs {
         let job = joined(alloc, parts)?;
-        let wanted = Answer::of(alloc, status, b"", line)?;
-        words_leave(&rt, alloc, &words, &job, BY_BYTES, &wanted)?;
+        let wanted = Answer::of(alloc, *status, b"", line)?;
+        leaves(rt, alloc, words, &job, BY_BYTES, &wanted)?;
     }
     Ok(())
+}
+
+// The second head is one of one nozzle.
+#[test]
+fn the_machine_refuses_in_its_order(rt: HostRuntime) -> Result<(), Fail> {
+    const TINY: [&str; 2] = ["dots", "profile=tiny"];
+    try_jobs(&rt, rt.alloc(), &TINY, &RASTERS)?;
+    try_jobs(&rt, rt.alloc(), &TINY, &OTHERS)?;
+    try_jobs(&rt, rt.alloc(), &["dots", "profile=tiny1"], &BY_ONE)
 }

@@ -1,14 +1,15 @@
 //! Runs in memory, against what they are to leave.
-use crate::faults::answers::{Answer, printed, shown, told};
+use crate::faults::answers::{Answer, left_of, printed};
 use driver_fixtures::{one_file, run_over, source};
+use job_fixtures::{listed, played};
 use std::alloc::{AllocError, Global};
 use std::process::Abort;
 use std::test::Fail;
 use std::thread::Threads;
-use weave_base::{InkSet, MemSink, MemSource};
+use weave_base::{InkSet, MemSink};
 
 /// A command over an input.
-#[derive(Clone, Copy, Debug)]
+#[derive(Clone, Copy)]
 pub enum DriverCommand {
     /// Printing by a head of one nozzle with black ink.
     PrintBlack,
@@ -23,7 +24,8 @@ pub enum DriverCommand {
 const FOUR: &[u8] = b"escp2-profile 1\nhdpi=360\nvdpi=360\nnozzles=1\npitch=1\ninks=cmyk\n";
 
 impl DriverCommand {
-    fn words(self) -> &'static [&'static str] {
+    /// Its words.
+    pub fn words(self) -> &'static [&'static str] {
         match self {
             DriverCommand::PrintBlack => &["print", "profile=tiny1"],
             DriverCommand::PrintColours => &["print", "profile=four.txt"],
@@ -37,8 +39,8 @@ impl DriverCommand {
         match self {
             DriverCommand::PrintBlack => printed(alloc, InkSet::K, bytes),
             DriverCommand::PrintColours => printed(alloc, InkSet::Cmyk, bytes),
-            DriverCommand::Dots => shown(alloc, bytes),
-            DriverCommand::List => told(alloc, bytes),
+            DriverCommand::Dots => left_of(alloc, played(alloc, bytes)?),
+            DriverCommand::List => left_of(alloc, listed(alloc, bytes)?),
         }
     }
 }
@@ -54,11 +56,6 @@ pub struct Calls {
 }
 
 impl Calls {
-    // A source of these bytes.
-    fn source(self, alloc: Global, bytes: &[u8]) -> Result<MemSource, AllocError> {
-        source(alloc, bytes.to_vec(alloc)?, self.piece, self.failing_read)
-    }
-
     // A sink.
     fn sink(self, alloc: Global) -> Result<MemSink, Fail> {
         let (pieces, fails) = (vec![in alloc; 1]?, vec![in alloc; self.failing_write]?);
@@ -79,7 +76,7 @@ pub const BY_BYTES: Calls = Calls {
 };
 
 /// Asserts what these words leave over these bytes.
-pub fn words_leave<R: Abort + Threads + Sync>(
+pub fn leaves<R: Abort + Threads + Sync>(
     rt: &R,
     alloc: Global,
     words: &[&str],
@@ -87,8 +84,9 @@ pub fn words_leave<R: Abort + Threads + Sync>(
     calls: Calls,
     wanted: &Answer,
 ) -> Result<(), Fail> {
-    let (input, out) = (calls.source(alloc, bytes)?, calls.sink(alloc)?);
-    let shelf = one_file(alloc, "four.txt", FOUR)?;
+    let bytes_read = bytes.to_vec(alloc)?;
+    let input = source(alloc, bytes_read, calls.piece, calls.failing_read)?;
+    let (out, shelf) = (calls.sink(alloc)?, one_file(alloc, "four.txt", FOUR)?);
     let left = run_over(rt, alloc, words, input, out, shelf)?;
     let wanted = (wanted.status, wanted.out.as_slice(), wanted.line.as_bytes());
     assert_eq!(rt;
@@ -98,16 +96,4 @@ pub fn words_leave<R: Abort + Threads + Sync>(
         bytes.len()
     );
     Ok(())
-}
-
-/// Asserts what a command leaves over these bytes.
-pub fn leaves<R: Abort + Threads + Sync>(
-    rt: &R,
-    alloc: Global,
-    command: DriverCommand,
-    bytes: &[u8],
-    calls: Calls,
-    wanted: &Answer,
-) -> Result<(), Fail> {
-    words_leave(rt, alloc, command.words(), bytes, calls, wanted)
 }

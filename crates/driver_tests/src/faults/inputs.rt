@@ -1,11 +1,11 @@
 //! Small streams and jobs.
-use driver_fixtures::{add_page, begin};
+use crate::fixture::{GREY, Page, stream_of};
 use job_fixtures::TINY_JOB;
 use pwg_header::Kind;
 use std::alloc::{AllocError, Global};
 
 /// An input of a run.
-#[derive(Clone, Copy, Debug)]
+#[derive(Clone, Copy)]
 pub enum Input {
     /// A stream of one grey page of four columns and two lines.
     GreyPage,
@@ -17,9 +17,6 @@ pub enum Input {
     CodedJob,
 }
 
-// The second line has two dots.
-const GREY_BODY: [u8; 8] = [0, 3, 0xD1, 0, 2, 0x9F, 0, 0xA3];
-
 // A run and two literal pixels; a run, and white up to the line's end.
 const COLOUR_BODY: [u8; 18] = [
     0, 0, 0x20, 0x40, 0x60, 0xFF, 0x80, 0x10, 0xF0, 0x05, 0xC8, 0x64, 0, 1, 0x10, 0x20, 0x30, 0x80,
@@ -29,6 +26,11 @@ const COLOUR_BODY: [u8; 18] = [
 const SECOND_BODY: [u8; 20] = [
     1, 8, 0x30, 0x90, 0x60, 0, 0xFE, 0xFF, 0x00, 0x00, 0x00, 0xFF, 0x00, 0x70, 0x00, 0xFF, 5, 0x00,
     0x00, 0x00,
+];
+
+const COLOURS: [Page<'static>; 2] = [
+    (Kind::Rgb8, (3, 2), &COLOUR_BODY),
+    (Kind::Rgb8, (9, 3), &SECOND_BODY),
 ];
 
 // Graphics mode, the unit, a page of twenty units and a margin of two. Then cyan from column 2 on, in 37 columns, by
@@ -44,17 +46,8 @@ impl Input {
     /// Its bytes.
     pub fn bytes(self, alloc: Global) -> Result<Vec<u8>, AllocError> {
         match self {
-            Input::GreyPage => {
-                let mut bytes = begin(alloc)?;
-                add_page(&mut bytes, Kind::Gray8, (4, 2), &GREY_BODY)?;
-                Ok(bytes)
-            }
-            Input::ColourPages => {
-                let mut bytes = begin(alloc)?;
-                add_page(&mut bytes, Kind::Rgb8, (3, 2), &COLOUR_BODY)?;
-                add_page(&mut bytes, Kind::Rgb8, (9, 3), &SECOND_BODY)?;
-                Ok(bytes)
-            }
+            Input::GreyPage => stream_of(alloc, &[GREY]),
+            Input::ColourPages => stream_of(alloc, &COLOURS),
             Input::TinyJob => TINY_JOB.to_vec(alloc),
             Input::CodedJob => CODED_JOB.to_vec(alloc),
         }

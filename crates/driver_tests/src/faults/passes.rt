@@ -1,7 +1,7 @@
 //! A black page that is printed in two passes: every prefix of it and of its job, every failing read and every failing
 //! write.
 use crate::faults::answers::Answer;
-use crate::faults::fixture::{BY_BYTES, Calls, call_behind, words_leave};
+use crate::faults::fixture::{BY_BYTES, Calls, call_behind, leaves};
 use driver_fixtures::{black_pages, prefix};
 use job_fixtures::{TINY_IMAGES, TINY_JOB};
 use std::alloc::{AllocError, Global};
@@ -24,7 +24,7 @@ fn prints<R: Abort + Threads + Sync>(
     (status, out, line): Wanted,
 ) -> Result<(), Fail> {
     let wanted = Answer::of(alloc, status, out, line)?;
-    words_leave(rt, alloc, &["print", "profile=tiny"], bytes, calls, &wanted)
+    leaves(rt, alloc, &["print", "profile=tiny"], bytes, calls, &wanted)
 }
 
 // What the first bytes of the stream leave.
@@ -38,22 +38,6 @@ fn answer_to_prefix(count: usize) -> Wanted {
     }
 }
 
-#[test]
-fn every_prefix_of_a_woven_page_has_its_answer(rt: HostRuntime) -> Result<(), Fail> {
-    let whole = black_pages(rt.alloc(), 2)?;
-    for count in 0..STREAM + 1 {
-        let bytes = prefix(&whole, count);
-        prints(&rt, rt.alloc(), bytes, BY_BYTES, answer_to_prefix(count))?;
-    }
-    Ok(())
-}
-
-// What the stream leaves where the read behind so many bytes fails.
-fn answer_to_read(taken: usize) -> Wanted {
-    let out: &'static [u8] = if taken < STREAM { b"" } else { &TINY_JOB };
-    (4, out, "read failed\n")
-}
-
 // Asserts what a stream leaves where the read behind so many bytes fails.
 fn try_read<R: Abort + Threads + Sync>(
     rt: &R,
@@ -65,35 +49,21 @@ fn try_read<R: Abort + Threads + Sync>(
         failing_read: call_behind(taken),
         ..BY_BYTES
     };
-    prints(rt, alloc, bytes, calls, answer_to_read(taken))
+    let out: &'static [u8] = if taken < STREAM { b"" } else { &TINY_JOB };
+    prints(rt, alloc, bytes, calls, (4, out, "read failed\n"))
 }
 
 #[test]
-fn every_failing_read_of_a_woven_page_is_status_four(rt: HostRuntime) -> Result<(), Fail> {
+fn every_prefix_and_read_of_a_woven_page_has_its_answer(rt: HostRuntime) -> Result<(), Fail> {
     let whole = black_pages(rt.alloc(), 2)?;
-    for taken in 0..STREAM + 1 {
-        try_read(&rt, rt.alloc(), prefix(&whole, STREAM), taken)?;
+    for count in 0..STREAM + 1 {
+        let bytes = prefix(&whole, count);
+        prints(&rt, rt.alloc(), bytes, BY_BYTES, answer_to_prefix(count))?;
+        try_read(&rt, rt.alloc(), prefix(&whole, STREAM), count)?;
     }
     // the first byte of a second page
     try_read(&rt, rt.alloc(), &whole, STREAM)
 }
-
-#[test]
-fn every_failing_write_of_a_woven_page_leaves_its_prefix(rt: HostRuntime) -> Result<(), Fail> {
-    let whole = black_pages(rt.alloc(), 2)?;
-    for written in 0..TINY_JOB.len() {
-        let calls = Calls {
-            failing_write: call_behind(written),
-            ..BY_BYTES
-        };
-        let wanted = (5, prefix(&TINY_JOB, written), "write failed: page 1\n");
-        prints(&rt, rt.alloc(), prefix(&whole, STREAM), calls, wanted)?;
-    }
-    Ok(())
-}
-
-// The bytes of the page's job.
-const JOB: usize = 92;
 
 // Where the commands of the page's job begin, and where it ends.
 const BEGINS: [usize; 18] = [
@@ -116,20 +86,28 @@ fn answer_to_part(alloc: Global, count: usize) -> Result<Answer, AllocError> {
     Answer::of(alloc, 8, out, &line)
 }
 
+// Asserts what each failing write of the page leaves.
+fn try_writes<R: Abort + Threads + Sync>(rt: &R, alloc: Global) -> Result<(), Fail> {
+    let page = black_pages(alloc, 1)?;
+    for written in 0..TINY_JOB.len() {
+        let calls = Calls {
+            failing_write: call_behind(written),
+            ..BY_BYTES
+        };
+        let wanted = (5, prefix(&TINY_JOB, written), "write failed: page 1\n");
+        prints(rt, alloc, &page, calls, wanted)?;
+    }
+    Ok(())
+}
+
 #[test]
-fn every_prefix_of_its_job_has_its_answer(rt: HostRuntime) -> Result<(), Fail> {
-    let alloc = rt.alloc();
-    for count in 0..JOB + 1 {
+fn every_write_and_prefix_of_its_job_has_its_answer(rt: HostRuntime) -> Result<(), Fail> {
+    let (alloc, words) = (rt.alloc(), ["dots", "profile=tiny"]);
+    try_writes(&rt, alloc)?;
+    for count in 0..TINY_JOB.len() + 1 {
         let wanted = answer_to_part(alloc, count)?;
         let bytes = prefix(&TINY_JOB, count);
-        words_leave(
-            &rt,
-            alloc,
-            &["dots", "profile=tiny"],
-            bytes,
-            BY_BYTES,
-            &wanted,
-        )?;
+        leaves(&rt, alloc, &words, bytes, BY_BYTES, &wanted)?;
     }
     Ok(())
 }

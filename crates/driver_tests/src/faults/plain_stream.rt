@@ -3,7 +3,7 @@
 use std::alloc::{AllocError, Global};
 
 /// Where a stream stops before its end, and why.
-#[derive(Clone, Copy, Debug, PartialEq, Eq)]
+#[derive(Clone, Copy)]
 pub struct StreamFault {
     pub page: u32,
     pub line: u32,

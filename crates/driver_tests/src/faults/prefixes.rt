@@ -21,31 +21,16 @@ fn try_prefixes<R: Abort + Threads + Sync>(
     for count in 0..whole.len().saturating_add(1) {
         let bytes = prefix(&whole, count);
         let wanted = command.answer(alloc, bytes)?;
-        leaves(rt, alloc, command, bytes, calls, &wanted)?;
-    }
-    Ok(())
-}
-
-// Asserts the answer to each prefix of each input.
-fn try_all<R: Abort + Threads + Sync>(rt: &R, alloc: Global, cases: &[Case]) -> Result<(), Fail> {
-    for case in cases {
-        try_prefixes(rt, alloc, *case)?;
+        leaves(rt, alloc, command.words(), bytes, calls, &wanted)?;
     }
     Ok(())
 }
 
 #[test]
-fn every_prefix_of_two_colour_pages_has_its_answer(rt: HostRuntime) -> Result<(), Fail> {
-    const CASES: [Case; 2] = [
+fn every_prefix_of_pages_and_jobs_has_its_answer(rt: HostRuntime) -> Result<(), Fail> {
+    const CASES: [Case; 8] = [
         (DriverCommand::PrintColours, Input::ColourPages, 64),
         (DriverCommand::PrintBlack, Input::ColourPages, 1000),
-    ];
-    try_all(&rt, rt.alloc(), &CASES)
-}
-
-#[test]
-fn every_prefix_of_a_job_has_its_answer(rt: HostRuntime) -> Result<(), Fail> {
-    const CASES: [Case; 6] = [
         (DriverCommand::Dots, Input::TinyJob, 1),
         (DriverCommand::Dots, Input::CodedJob, 1),
         (DriverCommand::Dots, Input::CodedJob, 50),
@@ -53,5 +38,8 @@ fn every_prefix_of_a_job_has_its_answer(rt: HostRuntime) -> Result<(), Fail> {
         (DriverCommand::List, Input::CodedJob, 1),
         (DriverCommand::List, Input::CodedJob, 50),
     ];
-    try_all(&rt, rt.alloc(), &CASES)
+    for &case in &CASES {
+        try_prefixes(&rt, rt.alloc(), case)?;
+    }
+    Ok(())
 }

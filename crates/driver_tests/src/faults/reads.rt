@@ -1,24 +1,21 @@
 //! Every failing read, and failing reads and writes together.
 use crate::faults::fixture::{BY_BYTES, Calls, DriverCommand, call_behind, leaves};
 use crate::faults::inputs::Input;
+use crate::fixture::change;
 use driver_fixtures::prefix;
 use std::alloc::Global;
 use std::process::Abort;
 use std::test::Fail;
 use std::thread::Threads;
 
-// A run whose reads fail: a command, its input, a byte of the input that is changed, by its place, and the most bytes
-// of a read.
-type Case = (DriverCommand, Input, Option<(usize, u8)>, u32);
+// A run whose reads fail: a command, its input, the bytes of the input that are changed, by their places, and the most
+// bytes of a read.
+type Case = (DriverCommand, Input, &'static [(usize, u8)], u32);
 
 // The bytes of a case.
-fn bytes_of(alloc: Global, (_, input, change, _): Case) -> Result<Vec<u8>, Fail> {
+fn bytes_of(alloc: Global, (_, input, changes, _): Case) -> Result<Vec<u8>, Fail> {
     let mut bytes = input.bytes(alloc)?;
-    if let Some((place, byte)) = change {
-        if let Some(changed) = bytes.get_mut(place) {
-            *changed = byte;
-        }
-    }
+    change(&mut bytes, changes);
     Ok(bytes)
 }
 
@@ -38,7 +35,7 @@ fn try_read<R: Abort + Threads + Sync>(
         failing_read: call_behind(pieces),
         ..BY_BYTES
     };
-    leaves(rt, alloc, command, bytes, calls, &wanted)
+    leaves(rt, alloc, command.words(), bytes, calls, &wanted)
 }
 
 // Asserts what each failing read leaves, the one at the end included.
@@ -52,80 +49,62 @@ fn try_reads<R: Abort + Threads + Sync>(rt: &R, alloc: Global, case: Case) -> Re
     Ok(())
 }
 
-// Asserts what the failing reads of each case leave.
-fn try_all<R: Abort + Threads + Sync>(rt: &R, alloc: Global, cases: &[Case]) -> Result<(), Fail> {
-    for case in cases {
-        try_reads(rt, alloc, *case)?;
-    }
-    Ok(())
-}
-
-#[test]
-fn every_failing_read_is_status_four(rt: HostRuntime) -> Result<(), Fail> {
-    const CASES: [Case; 5] = [
-        (DriverCommand::PrintColours, Input::ColourPages, None, 1),
-        // the second page ends after its first group, and a third begins
+// The colour pages with a byte changed, by its place, and the most bytes of a read.
+macro_rules! colours {
+    ($place:literal, $byte:literal, $piece:literal) => {
         (
             DriverCommand::PrintColours,
             Input::ColourPages,
-            Some((3614, 2)),
-            11,
-        ),
-        (DriverCommand::PrintColours, Input::ColourPages, None, 7),
-        (DriverCommand::PrintColours, Input::ColourPages, None, 1000),
-        (DriverCommand::PrintBlack, Input::ColourPages, None, 65_536),
-    ];
-    try_all(&rt, rt.alloc(), &CASES)
+            &[($place, $byte)],
+            $piece,
+        )
+    };
 }
 
-// A byte of the colour pages that is changed, by its place, and the most bytes of a read.
-type Fault = (usize, u8, u32);
+// A failing read is status 4; a fault that was read comes before it.
+const CASES: [Case; 21] = [
+    (DriverCommand::PrintColours, Input::ColourPages, &[], 1),
+    // the second page ends after its first group, and a third begins
+    (
+        DriverCommand::PrintColours,
+        Input::ColourPages,
+        &[(3614, 2)],
+        11,
+    ),
+    (DriverCommand::PrintColours, Input::ColourPages, &[], 7),
+    (DriverCommand::PrintColours, Input::ColourPages, &[], 1000),
+    (DriverCommand::PrintBlack, Input::ColourPages, &[], 65_536),
+    // no sync word: three bytes could still be mended
+    colours!(1, b'b', 1),
+    // three literal pixels where two are left
+    colours!(1805, 0xFE, 5),
+    // the header of the second page
+    colours!(1818, b'p', 7),
+    // two lines where one is left, on the second page
+    colours!(3619, 1, 13),
+    colours!(3619, 1, 1000),
+    colours!(3619, 1, 65_536),
+    // a run past its line, on the second page
+    colours!(3615, 9, 19),
+    (DriverCommand::Dots, Input::CodedJob, &[], 1),
+    (DriverCommand::Dots, Input::CodedJob, &[], 7),
+    (DriverCommand::Dots, Input::TinyJob, &[], 1),
+    (DriverCommand::List, Input::CodedJob, &[], 1),
+    (DriverCommand::List, Input::CodedJob, &[], 7),
+    (DriverCommand::List, Input::TinyJob, &[], 1),
+    // a byte that begins no command, on the second sheet
+    (DriverCommand::Dots, Input::CodedJob, &[(105, 0x0E)], 3),
+    (DriverCommand::List, Input::CodedJob, &[(105, 0x0E)], 3),
+    // a raster of two rows
+    (DriverCommand::Dots, Input::CodedJob, &[(42, 2)], 2),
+];
 
 #[test]
-fn a_fault_that_was_read_comes_before_a_failing_read(rt: HostRuntime) -> Result<(), Fail> {
-    const FAULTS: [Fault; 7] = [
-        // no sync word: three bytes could still be mended
-        (1, b'b', 1),
-        // three literal pixels where two are left
-        (1805, 0xFE, 5),
-        // the header of the second page
-        (1818, b'p', 7),
-        // two lines where one is left, on the second page
-        (3619, 1, 13),
-        (3619, 1, 1000),
-        (3619, 1, 65_536),
-        // a run past its line, on the second page
-        (3615, 9, 19),
-    ];
-    for &(place, byte, piece) in &FAULTS {
-        let change = Some((place, byte));
-        let case = (
-            DriverCommand::PrintColours,
-            Input::ColourPages,
-            change,
-            piece,
-        );
+fn every_failing_read_is_status_four_behind_what_was_read(rt: HostRuntime) -> Result<(), Fail> {
+    for &case in &CASES {
         try_reads(&rt, rt.alloc(), case)?;
     }
     Ok(())
-}
-
-#[test]
-fn every_failing_read_of_a_job_is_status_four(rt: HostRuntime) -> Result<(), Fail> {
-    const CASES: [Case; 9] = [
-        (DriverCommand::Dots, Input::CodedJob, None, 1),
-        (DriverCommand::Dots, Input::CodedJob, None, 7),
-        (DriverCommand::Dots, Input::TinyJob, None, 1),
-        (DriverCommand::List, Input::CodedJob, None, 1),
-        (DriverCommand::List, Input::CodedJob, None, 7),
-        (DriverCommand::List, Input::TinyJob, None, 1),
-        // a byte that begins no command, on the second sheet
-        (DriverCommand::Dots, Input::CodedJob, Some((105, 0x0E)), 3),
-        (DriverCommand::List, Input::CodedJob, Some((105, 0x0E)), 3),
-        // a raster of two rows
-        (DriverCommand::Dots, Input::CodedJob, Some((42, 2)), 2),
-    ];
-    try_all(&rt, rt.alloc(), &CASES)
 }
 
 // A command, its input, and from one to the next of the reads and the writes that fail.
@@ -148,7 +127,7 @@ fn try_writes<R: Abort + Threads + Sync>(
             failing_write: call_behind(written),
             ..BY_BYTES
         };
-        leaves(rt, alloc, command, &bytes, calls, &wanted)?;
+        leaves(rt, alloc, command.words(), &bytes, calls, &wanted)?;
     }
     Ok(())
 }

@@ -1,6 +1,6 @@
 //! Every failing write.
 use crate::faults::answers::Answer;
-use crate::faults::fixture::{BY_BYTES, Calls, DriverCommand, call_behind, leaves, words_leave};
+use crate::faults::fixture::{BY_BYTES, Calls, DriverCommand, call_behind, leaves};
 use crate::faults::inputs::Input;
 use job_fixtures::TINY_TEXT;
 use std::alloc::Global;
@@ -24,7 +24,7 @@ fn try_writes<R: Abort + Threads + Sync>(
             failing_write: call_behind(written),
             ..BY_BYTES
         };
-        leaves(rt, alloc, command, &bytes, calls, &wanted)?;
+        leaves(rt, alloc, command.words(), &bytes, calls, &wanted)?;
     }
     Ok(())
 }
@@ -55,18 +55,6 @@ const LINES: [(&[&str], &[u8]); 2] = [
     (&["profile", "profile=tiny"], TINY_TEXT),
 ];
 
-// What words that write this text and read nothing leave where a write fails after so many bytes.
-fn cut(alloc: Global, text: &[u8], written: usize) -> Result<Answer, Fail> {
-    let whole = Answer {
-        status: 0,
-        out: text.to_vec(alloc)?,
-        ends: Vec::new(alloc),
-        line: String::new(alloc),
-        mends: true,
-    };
-    Ok(whole.unwritten(alloc, written)?)
-}
-
 // Asserts what each failing write leaves of a text. Every read fails.
 fn try_text<R: Abort + Threads + Sync>(
     rt: &R,
@@ -80,7 +68,8 @@ fn try_text<R: Abort + Threads + Sync>(
             failing_write: call_behind(written),
             ..BY_BYTES
         };
-        words_leave(rt, alloc, words, b"", calls, &cut(alloc, text, written)?)?;
+        let wanted = Answer::of(alloc, 0, text, "")?.unwritten(alloc, written)?;
+        leaves(rt, alloc, words, b"", calls, &wanted)?;
     }
     Ok(())
 }

@@ -1,6 +1,6 @@
 //! The command `dots`.
 use crate::fixture::Wanted;
-use crate::jobs::fixture::{JobRow, Part, ROOMY, try_jobs};
+use crate::rows::{Given, Part, ROOMY, Row, Table, try_tables};
 use job_fixtures::TINY_IMAGES;
 use std::test::Fail;
 
@@ -11,69 +11,52 @@ const KNOWN: Part = Part::Known(0, 92);
 
 const PLAYED: Wanted = (0, &[TINY_IMAGES], b"");
 
-#[test]
-fn dots_gives_four_images_of_a_sheet(rt: HostRuntime) -> Result<(), Fail> {
-    const ROWS: [JobRow; 3] = [
-        (&DOTS, &[KNOWN], (1, 0), ROOMY, PLAYED),
-        (&DOTS, &[KNOWN], (50, 0), ROOMY, PLAYED),
-        (&DOTS, &[KNOWN], (92, 0), ROOMY, PLAYED),
-    ];
-    try_jobs(&rt, rt.alloc(), &ROWS)
-}
+const IMAGES: [Row; 3] = [
+    (&DOTS, Given::Job(&[KNOWN], (1, 0), ROOMY), PLAYED),
+    (&DOTS, Given::Job(&[KNOWN], (50, 0), ROOMY), PLAYED),
+    (&DOTS, Given::Job(&[KNOWN], (92, 0), ROOMY), PLAYED),
+];
 
-#[test]
-fn a_raster_fired_twice_is_overprint(rt: HostRuntime) -> Result<(), Fail> {
-    const TWICE: [Part; 3] = [
-        Part::Known(0, 64),
-        Part::Bytes(&[0x0D]),
-        Part::Known(50, 64),
-    ];
-    const WANTED: Wanted = (8, &[], b"job: offset 65: Overprint\n");
-    try_jobs(&rt, rt.alloc(), &[(&DOTS, &TWICE, (92, 0), ROOMY, WANTED)])
-}
+const TWICE: [Part; 3] = [
+    Part::Known(0, 64),
+    Part::Bytes(&[0x0D]),
+    Part::Known(50, 64),
+];
 
-#[test]
-fn another_profile_is_density(rt: HostRuntime) -> Result<(), Fail> {
-    const ROWS: [JobRow; 1] = [(
-        &["dots", "profile=tiny1"],
-        &[KNOWN],
-        (92, 0),
-        ROOMY,
-        (8, &[], b"job: offset 50: Density\n"),
-    )];
-    try_jobs(&rt, rt.alloc(), &ROWS)
-}
+const OVERPRINT: [Row; 1] = [(
+    &DOTS,
+    Given::Job(&TWICE, (92, 0), ROOMY),
+    (8, &[], b"job: offset 65: Overprint\n"),
+)];
+
+const DENSITY: [Row; 1] = [(
+    &["dots", "profile=tiny1"],
+    Given::Job(&[KNOWN], (92, 0), ROOMY),
+    (8, &[], b"job: offset 50: Density\n"),
+)];
 
 const CUT: [Part; 2] = [KNOWN, Part::Known(0, 60)];
 
-const STOPPED: [JobRow; 5] = [
+const STOPPED: [Row; 5] = [
     (
         &DOTS,
-        &CUT,
-        (33, 0),
-        ROOMY,
+        Given::Job(&CUT, (33, 0), ROOMY),
         (8, &[TINY_IMAGES], b"job: offset 142: Cut\n"),
     ),
     (
         &DOTS,
-        &CUT,
-        (50, 3),
-        ROOMY,
+        Given::Job(&CUT, (50, 3), ROOMY),
         (4, &[TINY_IMAGES], b"read failed\n"),
     ),
     (
         &["dots", "profile=tiny", "most=91"],
-        &[KNOWN],
-        (50, 0),
-        ROOMY,
+        Given::Job(&[KNOWN], (50, 0), ROOMY),
         (8, &[TINY_IMAGES], b"job: offset 91: TooLong\n"),
     ),
     // a full sink
     (
         &DOTS,
-        &[KNOWN, KNOWN],
-        (92, 0),
-        60,
+        Given::Job(&[KNOWN, KNOWN], (92, 0), 60),
         (
             5,
             &[TINY_IMAGES, b"P4\n8 6\n\x00"],
@@ -81,10 +64,20 @@ const STOPPED: [JobRow; 5] = [
         ),
     ),
     // a job without a sheet
-    (&DOTS, &[Part::Known(0, 50)], (92, 0), 64, (0, &[], b"")),
+    (
+        &DOTS,
+        Given::Job(&[Part::Known(0, 50)], (92, 0), 64),
+        (0, &[], b""),
+    ),
 ];
 
 #[test]
-fn sheets_before_a_stop_are_written(rt: HostRuntime) -> Result<(), Fail> {
-    try_jobs(&rt, rt.alloc(), &STOPPED)
+fn dots_gives_the_images_of_each_whole_sheet(rt: HostRuntime) -> Result<(), Fail> {
+    const TABLES: [Table; 4] = [
+        ("dots gives four images of a sheet", &IMAGES),
+        ("a raster fired twice is overprint", &OVERPRINT),
+        ("another profile is density", &DENSITY),
+        ("sheets before a stop are written", &STOPPED),
+    ];
+    try_tables(&rt, rt.alloc(), &TABLES)
 }

@@ -1,5 +1,5 @@
 //! The command `list`.
-use crate::jobs::fixture::{JobRow, Part, ROOMY, try_jobs};
+use crate::rows::{Given, Part, ROOMY, Row, Table, try_tables};
 use std::test::Fail;
 
 // The listing of the job for the printer `tiny`: its first two lines, and the others.
@@ -14,91 +14,77 @@ const LIST: [&str; 1] = ["list"];
 
 const KNOWN: [Part; 1] = [Part::Known(0, 92)];
 
-#[test]
-fn list_gives_seventeen_lines(rt: HostRuntime) -> Result<(), Fail> {
-    const ROWS: [JobRow; 1] = [(
-        &LIST,
-        &KNOWN,
-        (7, 0),
-        ROOMY,
-        (0, &[FIRST_LINES, OTHER_LINES], b""),
-    )];
-    try_jobs(&rt, rt.alloc(), &ROWS)
-}
+const WHOLE: [Row; 1] = [(
+    &LIST,
+    Given::Job(&KNOWN, (7, 0), ROOMY),
+    (0, &[FIRST_LINES, OTHER_LINES], b""),
+)];
 
 const SHORT: [&str; 2] = ["list", "most=99"];
 
-const READER_FAULTS: [JobRow; 6] = [
+const READER_FAULTS: [Row; 6] = [
     (
         &SHORT,
-        &[Part::Known(0, 10)],
-        (3, 0),
-        ROOMY,
+        Given::Job(&[Part::Known(0, 10)], (3, 0), ROOMY),
         (8, &[FIRST_LINES], b"job: offset 8: Cut\n"),
     ),
     (
         &["list", "most=10"],
-        &[Part::Known(0, 11)],
-        (3, 0),
-        ROOMY,
+        Given::Job(&[Part::Known(0, 11)], (3, 0), ROOMY),
         (8, &[FIRST_LINES], b"job: offset 10: TooLong\n"),
     ),
     (
         &SHORT,
-        &[Part::Bytes(&[0x1B, 0x41])],
-        (3, 0),
-        ROOMY,
+        Given::Job(&[Part::Bytes(&[0x1B, 0x41])], (3, 0), ROOMY),
         (8, &[], b"job: offset 1: Unknown\n"),
     ),
     (
         &SHORT,
-        &[Part::Bytes(&[0x1B, 0x28, 0x47, 2, 0])],
-        (3, 0),
-        ROOMY,
+        Given::Job(&[Part::Bytes(&[0x1B, 0x28, 0x47, 2, 0])], (3, 0), ROOMY),
         (8, &[], b"job: offset 3: BadLength\n"),
     ),
     (
         &SHORT,
-        &[Part::Bytes(&[0x1B, 0x72, 3])],
-        (3, 0),
-        ROOMY,
+        Given::Job(&[Part::Bytes(&[0x1B, 0x72, 3])], (3, 0), ROOMY),
         (8, &[], b"job: offset 2: BadValue\n"),
     ),
     (
         &SHORT,
-        &[Part::Bytes(&[0x1B, 0x2E, 1, 0x14, 0x0A, 3, 8, 0, 0x80])],
-        (3, 0),
-        ROOMY,
+        Given::Job(
+            &[Part::Bytes(&[0x1B, 0x2E, 1, 0x14, 0x0A, 3, 8, 0, 0x80])],
+            (3, 0),
+            ROOMY,
+        ),
         (8, &[], b"job: offset 8: RunCode\n"),
     ),
 ];
 
-#[test]
-fn list_names_each_reader_fault(rt: HostRuntime) -> Result<(), Fail> {
-    try_jobs(&rt, rt.alloc(), &READER_FAULTS)
-}
+const FAILED_CALLS: [Row; 2] = [
+    (
+        &LIST,
+        Given::Job(&KNOWN, (1, 9), ROOMY),
+        (4, &[FIRST_LINES], b"read failed\n"),
+    ),
+    (
+        &LIST,
+        Given::Job(&KNOWN, (92, 0), 30),
+        (
+            5,
+            &[FIRST_LINES, b"8 UNIT 5\n14 "],
+            b"write failed: page 0\n",
+        ),
+    ),
+];
 
 #[test]
-fn a_failed_read_and_a_full_sink_leave_what_was_listed(rt: HostRuntime) -> Result<(), Fail> {
-    const ROWS: [JobRow; 2] = [
+fn list_gives_the_lines_before_a_stop(rt: HostRuntime) -> Result<(), Fail> {
+    const TABLES: [Table; 3] = [
+        ("list gives seventeen lines", &WHOLE),
+        ("list names each reader fault", &READER_FAULTS),
         (
-            &LIST,
-            &KNOWN,
-            (1, 9),
-            ROOMY,
-            (4, &[FIRST_LINES], b"read failed\n"),
-        ),
-        (
-            &LIST,
-            &KNOWN,
-            (92, 0),
-            30,
-            (
-                5,
-                &[FIRST_LINES, b"8 UNIT 5\n14 "],
-                b"write failed: page 0\n",
-            ),
+            "a failed read and a full sink leave what was listed",
+            &FAILED_CALLS,
         ),
     ];
-    try_jobs(&rt, rt.alloc(), &ROWS)
+    try_tables(&rt, rt.alloc(), &TABLES)
 }

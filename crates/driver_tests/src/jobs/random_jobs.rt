@@ -1,7 +1,7 @@
 //! Pseudo-random jobs, whole, cut and with a byte changed: the driver answers as the slow programs do.
 use crate::fixture::leaves;
-use crate::jobs::fixture::run_job;
 use crate::jobs::random::{Random, random_job};
+use driver_fixtures::{no_files, roomy, run_over, source};
 use job_fixtures::{PlainOutcome, listed, played};
 use std::alloc::Global;
 use std::process::Abort;
@@ -21,8 +21,10 @@ fn has_outcome<R: Abort + Threads + Sync>(
         Some((at, cause)) => (8, format!(in alloc; "job: offset {at}: {cause}\n")?),
         None => (0, String::new(alloc)),
     };
-    let left = run_job(rt, alloc, words, job.to_vec(alloc)?, (piece, 0), 70_000)?;
-    leaves(rt, &left, (status, &plain.out, line.as_bytes()));
+    let input = source(alloc, job.to_vec(alloc)?, piece, 0)?;
+    let left = run_over(rt, alloc, words, input, roomy(alloc)?, no_files(alloc))?;
+    let wanted = (status, plain.out.as_slice(), line.as_bytes());
+    leaves(rt, "a pseudo-random job", &left, wanted);
     Ok(())
 }
 

@@ -1,6 +1,7 @@
 //! Several meters, and none.
-use crate::fixture::{TINY, Wanted};
-use crate::meters::fixture::{ROOMY, last, one_meter, runs_to};
+use crate::fixture::{BLACK, TINY, Wanted};
+use crate::meters::fixture::{last, one_meter, runs_to};
+use crate::rows::Given;
 use ink_meter::{DotMeter, Meter};
 use job_fixtures::{TINY_JOB, TINY_TEXT};
 use meter_fixtures::{Card, counts, settled};
@@ -9,11 +10,15 @@ use std::process::Abort;
 use std::test::Fail;
 use std::thread::Threads;
 
+const ONE_PAGE: Given = Given::Pages(&[], &[BLACK]);
+
+const TWO_PAGES: Given = Given::Pages(&[], &[BLACK, BLACK]);
+
 // A meter that counts as usual, and a second one with this cap.
 fn two_meters(alloc: Global, cap: u64) -> Result<Vec<Box<dyn Meter>>, Fail> {
     let mut second = DotMeter::make();
     second.set_cap(cap);
-    let mut meters = one_meter(alloc)?;
+    let mut meters = one_meter(alloc, 0)?;
     meters.push(Box::new(alloc, second)?)?;
     Ok(meters)
 }
@@ -33,15 +38,16 @@ fn the_second_meter_refuses_for_both(rt: HostRuntime) -> Result<(), Fail> {
     ];
     for &(cap, wanted, black) in &ROWS {
         let mut meters = two_meters(rt.alloc(), cap)?;
-        runs_to(&rt, rt.alloc(), &TINY, (1, ROOMY), &mut meters, wanted)?;
-        assert!(rt; settled(meters) == Some(counts(black, 0, 0, 0)));
+        runs_to(&rt, rt.alloc(), &TINY, ONE_PAGE, &mut meters, wanted)?;
+        let counted = settled(meters);
+        assert!(rt; counted == Some(counts(black, 0, 0, 0)), "cap {cap}");
     }
     Ok(())
 }
 
 // A usual meter, and a card with this cap.
 fn with_card(alloc: Global, cap: u64) -> Result<Vec<Box<dyn Meter>>, Fail> {
-    let mut meters = one_meter(alloc)?;
+    let mut meters = one_meter(alloc, 0)?;
     meters.push(Box::new(alloc, Card::make(cap))?)?;
     Ok(meters)
 }
@@ -57,10 +63,11 @@ fn try_cards<R: Abort + Threads + Sync>(
 ) -> Result<(), Fail> {
     for (words, wanted, cap, black) in rows {
         let mut meters = with_card(alloc, *cap)?;
-        runs_to(rt, alloc, words, (2, ROOMY), &mut meters, *wanted)?;
+        runs_to(rt, alloc, words, TWO_PAGES, &mut meters, *wanted)?;
         let counted = counts(*black, 0, 0, 0);
         let both = (last(&mut meters), last(&mut meters));
-        assert!(rt; both == (Some((*cap, counted)), Some((u64::MAX, counted))));
+        let wanted = (Some((*cap, counted)), Some((u64::MAX, counted)));
+        assert!(rt; both == wanted, "{words:?}");
     }
     Ok(())
 }
@@ -89,5 +96,5 @@ fn a_job_without_a_meter_has_no_cap(rt: HostRuntime) -> Result<(), Fail> {
     const WANTED: Wanted = (0, &[&TINY_JOB], b"");
     let words = ["print", "profile=tiny", "cap=0"];
     let mut none = Vec::new(rt.alloc());
-    runs_to(&rt, rt.alloc(), &words, (1, ROOMY), &mut none, WANTED)
+    runs_to(&rt, rt.alloc(), &words, ONE_PAGE, &mut none, WANTED)
 }

@@ -1,7 +1,8 @@
 //! Each small head over black windows of eight columns.
+use crate::fixture::stream_of;
 use crate::heads::is_coprime;
 use crate::small_heads::shots::{Shot, shots_of};
-use driver_fixtures::{add_page, begin, one_file, plain, roomy, run_over};
+use driver_fixtures::{one_file, plain, roomy, run_over};
 use pwg_header::Kind;
 use std::alloc::{AllocError, Global};
 use std::process::Abort;
@@ -39,8 +40,7 @@ fn shelf_of(alloc: Global, work: Work) -> Result<MemShelf, Fail> {
 fn page_of(alloc: Global, work: Work) -> Result<MemSource, AllocError> {
     let height = work.rows.wrapping_add(work.top());
     let lines = u8::try_from(height.saturating_sub(1)).unwrap_or(255);
-    let mut page = begin(alloc)?;
-    add_page(&mut page, Kind::Gray8, (8, height), &[lines, 7, 0])?;
+    let page = stream_of(alloc, &[(Kind::Gray8, (8, height), &[lines, 7, 0])])?;
     Ok(plain(alloc, page))
 }
 

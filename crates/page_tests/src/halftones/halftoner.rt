@@ -117,81 +117,80 @@ const KINDS: [Kind; 5] = [
     Kind::Cmyk8,
 ];
 
-// All small pages on a printer.
-fn each_page<R: Abort + Threads + Sync>(rt: &R, alloc: Global, p: &Profile, how: Screening) {
+// Stops the test where a page has other inks, columns, rows or dots.
+fn is_right<R: Abort + Threads + Sync>(
+    rt: &R,
+    alloc: Global,
+    inks: InkSet,
+    f: PageForm,
+    how: Screening,
+    copies: u32,
+    workers: u8,
+)
+    requires workers { (1 ≤ workers) × (workers ≤ 64) }
+    requires copies { 1 ≤ copies }
+{
+    let found = wrong_in(rt, alloc, &printer(inks), f, how, copies, workers);
+    let (width, height) = (f.width.wrapping_sub(3), f.height.wrapping_sub(3));
+    let is_right = found == Some((inks.count(), width, height, 0));
+    let Screening { kernel, grain } = how;
+    assert!(rt;
+        is_right,
+        "{inks:?} {kernel:?} {grain} {f:?} {copies} by {workers}: {found:?}"
+    );
+}
+
+// All small pages on a printer. The tallest has more than two slabs.
+fn each_page<R: Abort + Threads + Sync>(rt: &R, alloc: Global, inks: InkSet, how: Screening) {
     for &kind in &KINDS {
         for (width, height) in [(1, 5), (7, 256), (8, 257), (9, 515)] {
-            let f = form(kind, width + 3, height + 3);
-            let found = wrong_in(rt, alloc, p, f, how, 1, 2);
-            let want = Some((p.inks.count(), width, height, 0));
-            assert!(rt; found == want, "{kind:?} at {width} by {height}: {found:?}");
+            is_right(
+                rt,
+                alloc,
+                inks,
+                form(kind, width + 3, height + 3),
+                how,
+                1,
+                2,
+            );
         }
     }
 }
 
 #[test]
-fn small_pages_have_the_dots_of_the_definition(rt: HostRuntime) {
+fn small_pages_have_the_dots_of_the_definition_and_their_grain(rt: HostRuntime) {
     let alloc = rt.alloc();
-    each_page(&rt, alloc, &printer(InkSet::K), plain(Kernel::Floyd));
-    each_page(&rt, alloc, &printer(InkSet::Cmy), plain(Kernel::Jarvis));
-    each_page(&rt, alloc, &printer(InkSet::Cmyk), plain(Kernel::Stucki));
-}
-
-// All small pages on a printer by a kernel with grain.
-fn with_grain<R: Abort + Threads + Sync>(rt: &R, alloc: Global, p: &Profile, kernel: Kernel) {
-    for grain in [1, 16, 32] {
-        each_page(rt, alloc, p, Screening { kernel, grain });
-    }
-}
-
-// The tallest page has more than two slabs.
-#[test]
-fn small_pages_have_their_grain(rt: HostRuntime) {
+    each_page(&rt, alloc, InkSet::K, plain(Kernel::Floyd));
+    each_page(&rt, alloc, InkSet::Cmy, plain(Kernel::Jarvis));
+    each_page(&rt, alloc, InkSet::Cmyk, plain(Kernel::Stucki));
     for inks in [InkSet::K, InkSet::Cmy, InkSet::Cmyk] {
         for kernel in [Kernel::Floyd, Kernel::Jarvis, Kernel::Stucki] {
-            with_grain(&rt, rt.alloc(), &printer(inks), kernel);
+            for grain in [1, 16, 32] {
+                each_page(&rt, alloc, inks, Screening { kernel, grain });
+            }
         }
     }
 }
 
-// The places of the grain go round many times on a wide page, and equal lines get other grain.
 #[test]
-fn a_wide_page_has_its_grain(rt: HostRuntime) {
-    let p = printer(InkSet::Cmyk);
-    let f = form(Kind::Gray8, 3003, 133);
-    for (copies, workers) in [(1, 1), (40, 2)] {
-        let how = Screening {
-            kernel: Kernel::Jarvis,
-            grain: 16,
-        };
-        let found = wrong_in(&rt, rt.alloc(), &p, f, how, copies, workers);
-        assert!(rt; found == Some((4, 3000, 130, 0)), "by {workers}: {found:?}");
-    }
-}
-
-// A wide page of five bands, which are one slab.
-#[test]
-fn errors_cross_the_bands_of_a_wide_page(rt: HostRuntime) {
-    let p = printer(InkSet::Cmyk);
-    let f = form(Kind::Gray8, 3003, 133);
-    for workers in [1, 2] {
-        let found = wrong_in(&rt, rt.alloc(), &p, f, plain(Kernel::Floyd), 1, workers);
-        assert!(rt; found == Some((4, 3000, 130, 0)), "by {workers}: {found:?}");
-    }
-}
-
-// Tiles that have all their pixels, in which rows have the line of the row above them.
-#[test]
-fn lines_that_stand_more_than_once(rt: HostRuntime) {
-    let p = printer(InkSet::Cmyk);
+fn wide_pages_and_lines_that_stand_more_than_once(rt: HostRuntime) {
+    // A wide page has five bands, which are one slab. The places of the grain go round many times on it, and equal
+    // lines get other grain.
+    let wide = form(Kind::Gray8, 3003, 133);
+    let floyd = plain(Kernel::Floyd);
+    let grained = Screening {
+        kernel: Kernel::Jarvis,
+        grain: 16,
+    };
+    is_right(&rt, rt.alloc(), InkSet::Cmyk, wide, grained, 1, 1);
+    is_right(&rt, rt.alloc(), InkSet::Cmyk, wide, grained, 40, 2);
+    is_right(&rt, rt.alloc(), InkSet::Cmyk, wide, floyd, 1, 1);
+    is_right(&rt, rt.alloc(), InkSet::Cmyk, wide, floyd, 1, 2);
+    // tiles that have all their pixels, in which rows have the line of the row above them
     for &kind in &KINDS {
         for copies in [2, 3, 40] {
-            let f = form(kind, 203, 73);
-            let found = wrong_in(&rt, rt.alloc(), &p, f, plain(Kernel::Floyd), copies, 2);
-            assert!(rt;
-                found == Some((4, 200, 70, 0)),
-                "{kind:?} by {copies}: {found:?}"
-            );
+            let page = form(kind, 203, 73);
+            is_right(&rt, rt.alloc(), InkSet::Cmyk, page, floyd, copies, 2);
         }
     }
 }
@@ -229,11 +228,11 @@ fn rows_with_dots<R: Threads + Sync>(rt: &R, alloc: Global, height: u32) -> Opti
 #[test]
 fn errors_cross_the_slab_at_row_256(rt: HostRuntime) {
     let Some(rows) = rows_with_dots(&rt, rt.alloc(), 257) else {
-        assert!(rt; false, "no planes");
-        return;
+        panic!(rt; "no planes");
     };
-    assert_eq!(rt; rows.len(), 86);
-    for (n, y) in rows.iter().enumerate() {
-        assert!(rt; *y as usize == 3 * n + 1, "at {n}");
+    let mut wanted = [0u32; 86];
+    for n in 0..86 {
+        wanted[n] = 3 * n as u32 + 1;
     }
+    assert!(rt; rows.as_slice() == wanted.as_slice(), "{rows:?}");
 }

@@ -67,8 +67,8 @@ fn a_black_line_is_all_dots_and_a_white_line_none(rt: HostRuntime) -> Result<(),
     let page = read(&rt, rt.alloc(), &[0, 7, 0x00, 0, 7, 0xFF])?;
     let planes = page?.ok_or("no page")?.planes;
     assert!(rt; planes.inks() == 1 && planes.width() == 8 && planes.rows() == 2);
-    assert!(rt; planes.row(0, 0) == [0xFF].as_slice());
-    assert!(rt; planes.row(0, 1) == [0].as_slice());
+    let is_right = planes.row(0, 0) == [0xFF].as_slice() && planes.row(0, 1) == [0].as_slice();
+    assert!(rt; is_right, "the dots");
     Ok(())
 }
 

@@ -7,7 +7,6 @@ use printer_profile::{InkSet, Profile, STRAIGHT_CURVE, TINY1};
 use pwg_definitions::Kind;
 use separation_definitions::Window;
 use std::alloc::Global;
-use std::process::Abort;
 
 // Tone curves of a printer.
 #[derive(Clone, Copy)]
@@ -83,46 +82,30 @@ fn amounts_of(
     Some(given)
 }
 
-fn each(rt: &impl Abort, alloc: Global, cells: &[Cell]) {
-    for (kind, pixel, inks, tones, want) in cells {
-        let given = amounts_of(alloc, *kind, pixel, *inks, *tones);
-        assert!(rt;
-            given == Some(*want),
-            "{kind:?} {pixel:?} in {inks:?} from {}",
-            tones.0
-        );
-    }
-}
-
-#[test]
-fn black_start_takes_grey_into_black(rt: HostRuntime) {
-    const CELLS: [Cell; 3] = [
-        (
-            Kind::Rgb8,
-            [100, 100, 100, 0],
-            InkSet::Cmyk,
-            PLAIN,
-            [155, 0, 0, 0],
-        ),
-        (
-            Kind::Rgb8,
-            [100, 100, 100, 0],
-            InkSet::Cmyk,
-            (128, FREE, Curves::Straight),
-            [54, 101, 101, 101],
-        ),
-        (
-            Kind::Rgb8,
-            [100, 100, 100, 0],
-            InkSet::Cmyk,
-            (200, FREE, Curves::Straight),
-            [0, 155, 155, 155],
-        ),
-    ];
-    each(&rt, rt.alloc(), &CELLS);
-}
-
-const RED_OR_LIMITED: [Cell; 12] = [
+const CELLS: [Cell; 25] = [
+    // grey goes into black from the black start on
+    (
+        Kind::Rgb8,
+        [100, 100, 100, 0],
+        InkSet::Cmyk,
+        PLAIN,
+        [155, 0, 0, 0],
+    ),
+    (
+        Kind::Rgb8,
+        [100, 100, 100, 0],
+        InkSet::Cmyk,
+        (128, FREE, Curves::Straight),
+        [54, 101, 101, 101],
+    ),
+    (
+        Kind::Rgb8,
+        [100, 100, 100, 0],
+        InkSet::Cmyk,
+        (200, FREE, Curves::Straight),
+        [0, 155, 155, 155],
+    ),
+    // red, green and blue as grey, and amounts under a limit
     (Kind::Rgb8, [255, 0, 0, 0], InkSet::K, PLAIN, [179, 0, 0, 0]),
     (Kind::Rgb8, [0, 255, 0, 0], InkSet::K, PLAIN, [106, 0, 0, 0]),
     (Kind::Rgb8, [0, 0, 255, 0], InkSet::K, PLAIN, [227, 0, 0, 0]),
@@ -189,101 +172,89 @@ const RED_OR_LIMITED: [Cell; 12] = [
         (64, [255, 224, 200, 180], Curves::Straight),
         [48, 133, 162, 36],
     ),
+    // a pixel of four inks in each set of inks
+    (
+        Kind::Cmyk8,
+        [10, 20, 30, 200],
+        InkSet::Cmyk,
+        PLAIN,
+        [200, 10, 20, 30],
+    ),
+    (
+        Kind::Cmyk8,
+        [10, 20, 30, 200],
+        InkSet::Cmy,
+        PLAIN,
+        [210, 220, 230, 0],
+    ),
+    (
+        Kind::Cmyk8,
+        [10, 20, 30, 200],
+        InkSet::K,
+        PLAIN,
+        [219, 0, 0, 0],
+    ),
+    (
+        Kind::Cmyk8,
+        [10, 20, 30, 200],
+        InkSet::Cmyk,
+        (0, [128, 255, 128, 51], Curves::Straight),
+        [100, 10, 10, 6],
+    ),
+    // cyan and black saturate
+    (
+        Kind::Cmyk8,
+        [100, 0, 0, 200],
+        InkSet::Cmy,
+        PLAIN,
+        [255, 200, 200, 0],
+    ),
+    // red 0, green and blue 55
+    (
+        Kind::Cmyk8,
+        [100, 0, 0, 200],
+        InkSet::K,
+        PLAIN,
+        [217, 0, 0, 0],
+    ),
+    // an ink has its own tone before its limit
+    (
+        Kind::Cmyk8,
+        [10, 20, 30, 200],
+        InkSet::Cmyk,
+        (0, FREE, Curves::Mixed),
+        [255, 5, 20, 60],
+    ),
+    (
+        Kind::Cmyk8,
+        [10, 20, 30, 200],
+        InkSet::Cmyk,
+        (0, [128, 128, 128, 128], Curves::Mixed),
+        [128, 2, 10, 30],
+    ),
+    (
+        Kind::Cmyk8,
+        [10, 20, 30, 200],
+        InkSet::Cmy,
+        (0, [1, 255, 128, 128], Curves::Mixed),
+        [105, 110, 128, 0],
+    ),
+    (
+        Kind::Black1,
+        [0x80, 0, 0, 0],
+        InkSet::K,
+        (0, FREE, Curves::HalfBlack),
+        [127, 0, 0, 0],
+    ),
 ];
 
 #[test]
-fn red_as_grey_and_an_amount_under_a_limit(rt: HostRuntime) {
-    each(&rt, rt.alloc(), &RED_OR_LIMITED);
-}
-
-#[test]
-fn a_cmyk_pixel_in_each_ink_set(rt: HostRuntime) {
-    const CELLS: [Cell; 4] = [
-        (
-            Kind::Cmyk8,
-            [10, 20, 30, 200],
-            InkSet::Cmyk,
-            PLAIN,
-            [200, 10, 20, 30],
-        ),
-        (
-            Kind::Cmyk8,
-            [10, 20, 30, 200],
-            InkSet::Cmy,
-            PLAIN,
-            [210, 220, 230, 0],
-        ),
-        (
-            Kind::Cmyk8,
-            [10, 20, 30, 200],
-            InkSet::K,
-            PLAIN,
-            [219, 0, 0, 0],
-        ),
-        (
-            Kind::Cmyk8,
-            [10, 20, 30, 200],
-            InkSet::Cmyk,
-            (0, [128, 255, 128, 51], Curves::Straight),
-            [100, 10, 10, 6],
-        ),
-    ];
-    each(&rt, rt.alloc(), &CELLS);
-}
-
-#[test]
-fn cyan_and_black_saturate(rt: HostRuntime) {
-    const CELLS: [Cell; 2] = [
-        (
-            Kind::Cmyk8,
-            [100, 0, 0, 200],
-            InkSet::Cmy,
-            PLAIN,
-            [255, 200, 200, 0],
-        ),
-        // red 0, green and blue 55
-        (
-            Kind::Cmyk8,
-            [100, 0, 0, 200],
-            InkSet::K,
-            PLAIN,
-            [217, 0, 0, 0],
-        ),
-    ];
-    each(&rt, rt.alloc(), &CELLS);
-}
-
-#[test]
-fn an_ink_has_its_own_tone_before_its_limit(rt: HostRuntime) {
-    const CELLS: [Cell; 4] = [
-        (
-            Kind::Cmyk8,
-            [10, 20, 30, 200],
-            InkSet::Cmyk,
-            (0, FREE, Curves::Mixed),
-            [255, 5, 20, 60],
-        ),
-        (
-            Kind::Cmyk8,
-            [10, 20, 30, 200],
-            InkSet::Cmyk,
-            (0, [128, 128, 128, 128], Curves::Mixed),
-            [128, 2, 10, 30],
-        ),
-        (
-            Kind::Cmyk8,
-            [10, 20, 30, 200],
-            InkSet::Cmy,
-            (0, [1, 255, 128, 128], Curves::Mixed),
-            [105, 110, 128, 0],
-        ),
-        (
-            Kind::Black1,
-            [0x80, 0, 0, 0],
-            InkSet::K,
-            (0, FREE, Curves::HalfBlack),
-            [127, 0, 0, 0],
-        ),
-    ];
-    each(&rt, rt.alloc(), &CELLS);
+fn pixels_have_their_amounts_in_each_ink_set(rt: HostRuntime) {
+    for (kind, pixel, inks, tones, want) in &CELLS {
+        let given = amounts_of(rt.alloc(), *kind, pixel, *inks, *tones);
+        assert!(rt;
+            given == Some(*want),
+            "{kind:?} {pixel:?} in {inks:?}: {given:?} for {want:?}"
+        );
+    }
 }

@@ -84,9 +84,10 @@ fn black_1_begins_at_any_bit(rt: HostRuntime) {
     for left in 0..=9u8 {
         for width in [1, 7, 8, 63, 64, 65, 128, 200] {
             let given = blacks(rt.alloc(), &TINY1, Kind::Black1, &line, left, width);
-            let found = given.is_some_and(|given| {
-                given.len() == usize::from(width) && are_bits(&given, &line, left)
-            });
+            let found = match given {
+                Some(given) => given.len() == usize::from(width) && are_bits(&given, &line, left),
+                None => false,
+            };
             assert!(rt; found, "{width} from {left}");
         }
     }

@@ -149,13 +149,6 @@ fn slow_sink(alloc: Global, fails: &[u32]) -> Result<MemSink, Fail> {
     Ok(MemSink::make(alloc, 1_000, vec![in alloc; 1]?, fails.to_vec(alloc)?)?)
 }
 
-// What the run of a case leaves.
-fn left_by<R: Threads + Wait + Sync>(rt: &R, alloc: Global, case: &Case) -> Result<Left, Fail> {
-    let shelf = shelf_of(alloc, case.files, case.failing_reads)?;
-    let out = slow_sink(alloc, case.failing_writes)?;
-    run_words(rt, alloc, case.words, shelf, out, case.cap)
-}
-
 // Stops the test where the jobs of a sender are others.
 fn same_senders(
     rt: &impl Abort,
@@ -194,100 +187,14 @@ fn try_case<R: Abort + Threads + Wait + Sync>(
     at: &str,
     case: &Case,
 ) -> Result<(), Fail> {
-    let left = left_by(rt, alloc, case)?;
+    let shelf = shelf_of(alloc, case.files, case.failing_reads)?;
+    let out = slow_sink(alloc, case.failing_writes)?;
+    let left = run_words(rt, alloc, case.words, shelf, out, case.cap)?;
     let ended = (left.report.status, left.report.answer, left.counted);
     let black = Some(counts(case.black, 0, 0, 0));
     same(rt, at, &ended, &(case.status, case.answer, black));
     same_senders(rt, alloc, at, &left.report.done, case.senders)?;
     same_texts(rt, alloc, at, &left, case)
-}
-
-#[test]
-fn the_spool_prints_three_jobs(rt: HostRuntime) -> Result<(), Fail> {
-    try_case(&rt, rt.alloc(), "three jobs", &THREE_JOBS)
-}
-
-#[test]
-fn the_spool_counts_a_failed_job(rt: HostRuntime) -> Result<(), Fail> {
-    const CASE: Case = Case {
-        files: &[("a", 1), ("b", 0), ("c", 1)],
-        status: 9,
-        answer: SpoolAnswer::Failed { count: 1 },
-        senders: &[&[(1, 0, 1), (2, 3, 0)], &[(1, 0, 1)]],
-        pages: 2,
-        black: 32,
-        line: "jobs failed: 1\n",
-        ..THREE_JOBS
-    };
-    try_case(&rt, rt.alloc(), "an empty file", &CASE)
-}
-
-#[test]
-fn the_spool_refuses_an_absent_file_and_no_send(rt: HostRuntime) -> Result<(), Fail> {
-    const CASES: [(&str, Case); 4] = [
-        (
-            "absent",
-            Case {
-                words: &["profile=tiny", "send=x"],
-                files: &[],
-                status: 3,
-                answer: SpoolAnswer::File {
-                    sender: 1,
-                    job: 1,
-                    cause: FileCause::Absent,
-                },
-                line: "file: sender 1 job 1: Absent\n",
-                ..NONE
-            },
-        ),
-        (
-            "absent later",
-            Case {
-                words: &["profile=tiny", "send=a", "send=b,c,d,a"],
-                status: 3,
-                answer: SpoolAnswer::File {
-                    sender: 2,
-                    job: 3,
-                    cause: FileCause::Absent,
-                },
-                line: "file: sender 2 job 3: Absent\n",
-                ..NONE
-            },
-        ),
-        (
-            "absent before a read that would fail",
-            Case {
-                words: &["profile=tiny", "send=a,d,b"],
-                failing_reads: &[3],
-                status: 3,
-                answer: SpoolAnswer::File {
-                    sender: 1,
-                    job: 2,
-                    cause: FileCause::Absent,
-                },
-                line: "file: sender 1 job 2: Absent\n",
-                ..NONE
-            },
-        ),
-        (
-            "no send",
-            Case {
-                words: &["profile=tiny"],
-                files: &[],
-                status: 1,
-                answer: SpoolAnswer::Usage(SpoolFault {
-                    word: 2,
-                    cause: SpoolCause::NoSend,
-                }),
-                line: "usage: word 2: NoSend\n",
-                ..NONE
-            },
-        ),
-    ];
-    for (at, case) in &CASES {
-        try_case(&rt, rt.alloc(), at, case)?;
-    }
-    Ok(())
 }
 
 // The jobs of one sender, in its order.
@@ -303,9 +210,81 @@ const FAILED_SHELF: Case = Case {
     ..NONE
 };
 
-const FAILED_SHELVES: [(&str, Case); 4] = [
+const CASES: [(&str, Case); 14] = [
+    ("three jobs", THREE_JOBS),
     (
-        "read 1",
+        "an empty file",
+        Case {
+            files: &[("a", 1), ("b", 0), ("c", 1)],
+            status: 9,
+            answer: SpoolAnswer::Failed { count: 1 },
+            senders: &[&[(1, 0, 1), (2, 3, 0)], &[(1, 0, 1)]],
+            pages: 2,
+            black: 32,
+            line: "jobs failed: 1\n",
+            ..THREE_JOBS
+        },
+    ),
+    (
+        "absent",
+        Case {
+            words: &["profile=tiny", "send=x"],
+            files: &[],
+            status: 3,
+            answer: SpoolAnswer::File {
+                sender: 1,
+                job: 1,
+                cause: FileCause::Absent,
+            },
+            line: "file: sender 1 job 1: Absent\n",
+            ..NONE
+        },
+    ),
+    (
+        "absent later",
+        Case {
+            words: &["profile=tiny", "send=a", "send=b,c,d,a"],
+            status: 3,
+            answer: SpoolAnswer::File {
+                sender: 2,
+                job: 3,
+                cause: FileCause::Absent,
+            },
+            line: "file: sender 2 job 3: Absent\n",
+            ..NONE
+        },
+    ),
+    (
+        "absent before a read that would fail",
+        Case {
+            words: &["profile=tiny", "send=a,d,b"],
+            failing_reads: &[3],
+            status: 3,
+            answer: SpoolAnswer::File {
+                sender: 1,
+                job: 2,
+                cause: FileCause::Absent,
+            },
+            line: "file: sender 1 job 2: Absent\n",
+            ..NONE
+        },
+    ),
+    (
+        "no send",
+        Case {
+            words: &["profile=tiny"],
+            files: &[],
+            status: 1,
+            answer: SpoolAnswer::Usage(SpoolFault {
+                word: 2,
+                cause: SpoolCause::NoSend,
+            }),
+            line: "usage: word 2: NoSend\n",
+            ..NONE
+        },
+    ),
+    (
+        "a shelf that fails at read 1",
         Case {
             failing_reads: &[1],
             answer: SpoolAnswer::ReadFile { sender: 1, job: 1 },
@@ -313,7 +292,7 @@ const FAILED_SHELVES: [(&str, Case); 4] = [
         },
     ),
     (
-        "read 2",
+        "a shelf that fails at read 2",
         Case {
             failing_reads: &[2],
             answer: SpoolAnswer::ReadFile { sender: 1, job: 2 },
@@ -321,7 +300,7 @@ const FAILED_SHELVES: [(&str, Case); 4] = [
         },
     ),
     (
-        "read 3",
+        "a shelf that fails at read 3",
         Case {
             failing_reads: &[3],
             answer: SpoolAnswer::ReadFile { sender: 2, job: 1 },
@@ -329,7 +308,7 @@ const FAILED_SHELVES: [(&str, Case); 4] = [
         },
     ),
     (
-        "the profile",
+        "a shelf that fails at the profile",
         Case {
             words: &["profile=own", "send=a"],
             failing_reads: &[1],
@@ -337,19 +316,8 @@ const FAILED_SHELVES: [(&str, Case); 4] = [
             ..FAILED_SHELF
         },
     ),
-];
-
-#[test]
-fn a_shelf_that_fails_ends_the_run(rt: HostRuntime) -> Result<(), Fail> {
-    for (at, case) in &FAILED_SHELVES {
-        try_case(&rt, rt.alloc(), at, case)?;
-    }
-    Ok(())
-}
-
-const FAILED_WRITES: [(&str, Case); 3] = [
     (
-        "job 1",
+        "a failed write in job 1",
         Case {
             failing_writes: &[1],
             status: 5,
@@ -366,7 +334,7 @@ const FAILED_WRITES: [(&str, Case); 3] = [
         },
     ),
     (
-        "job 2",
+        "a failed write in job 2",
         Case {
             failing_writes: &[93],
             status: 5,
@@ -383,7 +351,7 @@ const FAILED_WRITES: [(&str, Case); 3] = [
         },
     ),
     (
-        "job 3, page 2",
+        "a failed write in job 3, page 2",
         Case {
             files: &[("a", 1), ("b", 1), ("c", 3)],
             failing_writes: &[277],
@@ -400,29 +368,27 @@ const FAILED_WRITES: [(&str, Case); 3] = [
             ..ONE_SENDER
         },
     ),
+    (
+        "a cap that the third job goes past",
+        Case {
+            cap: 47,
+            status: 9,
+            answer: SpoolAnswer::Failed { count: 1 },
+            senders: &[&[(1, 0, 1), (2, 0, 1), (3, 6, 0)]],
+            pages: 2,
+            black: 32,
+            line: "jobs failed: 1\n",
+            ..ONE_SENDER
+        },
+    ),
 ];
 
 #[test]
-fn a_failed_write_ends_the_run_in_its_job(rt: HostRuntime) -> Result<(), Fail> {
-    for (at, case) in &FAILED_WRITES {
+fn each_run_leaves_its_answer_its_jobs_and_its_lines(rt: HostRuntime) -> Result<(), Fail> {
+    for (at, case) in &CASES {
         try_case(&rt, rt.alloc(), at, case)?;
     }
     Ok(())
-}
-
-#[test]
-fn the_third_job_goes_past_the_cap(rt: HostRuntime) -> Result<(), Fail> {
-    const CASE: Case = Case {
-        cap: 47,
-        status: 9,
-        answer: SpoolAnswer::Failed { count: 1 },
-        senders: &[&[(1, 0, 1), (2, 0, 1), (3, 6, 0)]],
-        pages: 2,
-        black: 32,
-        line: "jobs failed: 1\n",
-        ..ONE_SENDER
-    };
-    try_case(&rt, rt.alloc(), "a cap", &CASE)
 }
 
 #[test]
@@ -490,12 +456,8 @@ fn run_eight<R: Abort + Threads + Wait + Sync>(
 }
 
 #[test]
-fn eight_senders_of_64_names_are_printed(rt: HostRuntime) -> Result<(), Fail> {
-    run_eight(&rt, rt.alloc(), (64, 1), (0, 0))
-}
-
-#[test]
-fn every_run_has_each_sender_in_its_order(rt: HostRuntime) -> Result<(), Fail> {
+fn every_run_of_eight_senders_has_each_in_its_order(rt: HostRuntime) -> Result<(), Fail> {
+    run_eight(&rt, rt.alloc(), (64, 1), (0, 0))?;
     for _ in 0..1000 {
         run_eight(&rt, rt.alloc(), (3, 0), (9, 3))?;
     }

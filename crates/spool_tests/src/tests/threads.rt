@@ -98,6 +98,8 @@ fn in_order(rt: &impl Abort, jobs: &[SpoolJob], sender: u8, count: u32) {
 #[test]
 fn two_senders_share_a_room_of_three(rt: HostRuntime) -> Result<(), Fail> {
     let alloc = rt.alloc();
+    let room = Vec::with_capacity(alloc, 200)?;
+    let (ones, twos) = (streams(alloc, 100)?, streams(alloc, 100)?);
     let Ok((spool, senders, mut printer)) = Spool::make(alloc, 2, 3) else {
         panic!(rt; "memory");
     };
@@ -105,15 +107,14 @@ fn two_senders_share_a_room_of_three(rt: HostRuntime) -> Result<(), Fail> {
     let (pass, other) = two_of(senders);
     let one = Work {
         pass,
-        streams: streams(alloc, 100)?,
+        streams: ones,
     };
     let two = Work {
         pass: other,
-        streams: streams(alloc, 100)?,
+        streams: twos,
     };
     let one = start(rt, &spool, one, Duration::ZERO)?;
     let two = start(rt, &spool, two, Duration::ZERO)?;
-    let room = Vec::with_capacity(alloc, 200)?;
     let jobs = take_all(&rt, &spool, &mut printer, 200, room);
     in_order(&rt, jobs.as_slice(), 1, 100);
     in_order(&rt, jobs.as_slice(), 2, 100);
@@ -134,6 +135,8 @@ fn through_one<R: Threads + Wait + Clock + Copy + Send + 'static>(
     sender: Duration,
     printer: Duration,
 ) -> Result<Vec<SpoolJob>, Fail> {
+    let room = Vec::with_capacity(alloc, 3)?;
+    let streams = streams(alloc, 3)?;
     let Ok((spool, mut senders, mut taker)) = Spool::make(alloc, 1, 1) else {
         return Err(AllocError.into());
     };
@@ -141,11 +144,7 @@ fn through_one<R: Threads + Wait + Clock + Copy + Send + 'static>(
         unreachable!()
     };
     let spool = Arc::new(alloc, spool)?;
-    let work = Work {
-        pass,
-        streams: streams(alloc, 3)?,
-    };
-    let room = Vec::with_capacity(alloc, 3)?;
+    let work = Work { pass, streams };
     let started = start(rt, &spool, work, sender)?;
     sleep(&rt, printer);
     let jobs = take_all(&rt, &spool, &mut taker, 3, room);
@@ -175,14 +174,15 @@ fn work_of_two(alloc: Global, spool: &Spool, senders: Vec<SendPass>) -> Result<(
     ensures two { IfOk result (λ works. CanSend spool.now works.1.pass works.1.streams.items
         × (sender_of works.1.pass ≡ 2) × (length works.1.streams.items ≡ 3)) }
 {
+    let (ones, twos) = (streams(alloc, 2)?, streams(alloc, 3)?);
     let (pass, other) = two_of(senders);
     let one = Work {
         pass,
-        streams: streams(alloc, 2)?,
+        streams: ones,
     };
     let two = Work {
         pass: other,
-        streams: streams(alloc, 3)?,
+        streams: twos,
     };
     Ok((one, two))
 }
@@ -190,12 +190,12 @@ fn work_of_two(alloc: Global, spool: &Spool, senders: Vec<SendPass>) -> Result<(
 #[test]
 fn all_senders_send_before_the_printer_takes(rt: HostRuntime) -> Result<(), Fail> {
     let alloc = rt.alloc();
+    let passes = Vec::with_capacity(alloc, 2)?;
+    let room = Vec::with_capacity(alloc, 5)?;
     let Ok((spool, senders, printer)) = Spool::make(alloc, 2, 5) else {
         panic!(rt; "memory");
     };
     let (one, two) = work_of_two(alloc, &spool, senders)?;
-    let passes = Vec::with_capacity(alloc, 2)?;
-    let room = Vec::with_capacity(alloc, 5)?;
     let jobs = take_of_two(&rt, &spool, one, two, printer, 5, passes, room);
     in_order(&rt, jobs.as_slice(), 1, 2);
     in_order(&rt, jobs.as_slice(), 2, 3);
@@ -206,11 +206,11 @@ fn all_senders_send_before_the_printer_takes(rt: HostRuntime) -> Result<(), Fail
 #[test]
 fn the_pass_of_the_second_sender_comes_back_first(rt: HostRuntime) -> Result<(), Fail> {
     let alloc = rt.alloc();
+    let passes = Vec::with_capacity(alloc, 2)?;
     let Ok((spool, senders, printer)) = Spool::make(alloc, 2, 5) else {
         panic!(rt; "memory");
     };
     let (one, two) = work_of_two(alloc, &spool, senders)?;
-    let passes = Vec::with_capacity(alloc, 2)?;
     let jobs = left_by_two(&rt, spool, one, two, printer, passes);
     in_order(&rt, jobs.as_slice(), 1, 2);
     in_order(&rt, jobs.as_slice(), 2, 3);

@@ -25,19 +25,6 @@ pub(super) fn words_of(alloc: Global, line: &[&str]) -> Result<Words, Fail> {
 // A line, and the number and the cause of its first refused word.
 type Refused = (&'static [&'static str], u32, SpoolCause);
 
-// Stops the test where a line is not refused so.
-fn all_refused(rt: &impl Abort, alloc: Global, lines: &[Refused]) -> Result<(), Fail> {
-    for (line, word, cause) in lines {
-        let words = words_of(alloc, line)?;
-        let wanted = SpoolFault {
-            word: *word,
-            cause: *cause,
-        };
-        assert!(rt; read_spool_words(&words).err() == Some(wanted), "{line:?}");
-    }
-    Ok(())
-}
-
 // The names of each sender, a blank after each name and a semicolon after each sender.
 fn names_of(alloc: Global, words: &Words, request: &SpoolRequest) -> Result<String, Fail>
     requires { spool_meaning words.now ≡ Ok request.now }
@@ -138,125 +125,114 @@ fn requests_are_read_with_their_names(rt: HostRuntime) -> Result<(), Fail> {
     Ok(())
 }
 
+const LINES: [Refused; 44] = [
+    // bad words
+    (&["send=a", ""], 2, SpoolCause::NotKeyValue),
+    (&["print", "send=a"], 1, SpoolCause::NotKeyValue),
+    (&["send=a", "cap=1"], 2, SpoolCause::UnknownKey),
+    (&["send=a", "shingle=1"], 2, SpoolCause::UnknownKey),
+    (&["dead=0", "send=a"], 1, SpoolCause::UnknownKey),
+    (&["send=a", "most=1"], 2, SpoolCause::UnknownKey),
+    (&["send=a", "=a"], 2, SpoolCause::UnknownKey),
+    (&["send=a", "Send=a"], 2, SpoolCause::UnknownKey),
+    (&["send=a", "send =a"], 2, SpoolCause::UnknownKey),
+    (&["send="], 1, SpoolCause::BadValue),
+    (&["send=,a"], 1, SpoolCause::BadValue),
+    (&["send=a,"], 1, SpoolCause::BadValue),
+    (&["send=a", "send=b,,c"], 2, SpoolCause::BadValue),
+    (&["send=,"], 1, SpoolCause::BadValue),
+    (&["workers=0", "x", "send=a"], 1, SpoolCause::BadValue),
+    (&["x", "workers=0"], 1, SpoolCause::NotKeyValue),
+    // each cause at each key
+    (&["send=a", "profile"], 2, SpoolCause::NotKeyValue),
+    (&["send=a", "profiles=c"], 2, SpoolCause::UnknownKey),
+    (
+        &["profile=c", "send=a", "profile="],
+        3,
+        SpoolCause::RepeatedKey,
+    ),
+    (&["send=a", "profile="], 2, SpoolCause::BadValue),
+    (&["send=a", "kernel"], 2, SpoolCause::NotKeyValue),
+    (&["send=a", "kernels=fs"], 2, SpoolCause::UnknownKey),
+    (
+        &["kernel=fs", "kernel=fs", "send=a"],
+        2,
+        SpoolCause::RepeatedKey,
+    ),
+    (&["kernel=floyd", "send=a"], 1, SpoolCause::BadValue),
+    (&["send=a", "grain"], 2, SpoolCause::NotKeyValue),
+    (&["send=a", "grains=1"], 2, SpoolCause::UnknownKey),
+    (
+        &["grain=0", "grain=16", "send=a"],
+        2,
+        SpoolCause::RepeatedKey,
+    ),
+    (&["grain=33", "send=a"], 1, SpoolCause::BadValue),
+    (&["send=a", "grain=x"], 2, SpoolCause::BadValue),
+    (&["send=a", "workers"], 2, SpoolCause::NotKeyValue),
+    (&["send=a", "worker=1"], 2, SpoolCause::UnknownKey),
+    (
+        &["workers=1", "send=a", "send=b", "workers=0"],
+        4,
+        SpoolCause::RepeatedKey,
+    ),
+    (&["send=a", "workers=65"], 2, SpoolCause::BadValue),
+    (&["send=a", "workers=01"], 2, SpoolCause::BadValue),
+    (&["send"], 1, SpoolCause::NotKeyValue),
+    (&["sends=a"], 1, SpoolCause::UnknownKey),
+    (&["send=a", "send="], 2, SpoolCause::BadValue),
+    // no sender is told after the last word
+    (&[], 1, SpoolCause::NoSend),
+    (&["profile=tiny"], 2, SpoolCause::NoSend),
+    (
+        &["kernel=fs", "workers=2", "profile=x"],
+        4,
+        SpoolCause::NoSend,
+    ),
+    (&["kernel=fs", "workers=65"], 2, SpoolCause::BadValue),
+    // a ninth sender is refused whatever its value
+    (
+        &[
+            "send=a", "send=a", "send=a", "send=a", "send=a", "send=a", "send=a", "send=a",
+            "send=a",
+        ],
+        9,
+        SpoolCause::BadValue,
+    ),
+    (
+        &[
+            "send=a",
+            "send=b",
+            "send=c",
+            "send=d",
+            "workers=2",
+            "send=e",
+            "send=f",
+            "send=g",
+            "send=h",
+            "send=,",
+        ],
+        10,
+        SpoolCause::BadValue,
+    ),
+    (
+        &[
+            "send=a", "send=b", "send=c", "send=d", "send=e", "send=f", "send=g", "send=h",
+            "cap=1", "send=i",
+        ],
+        9,
+        SpoolCause::UnknownKey,
+    ),
+];
+
 #[test]
 fn each_bad_word_has_its_cause(rt: HostRuntime) -> Result<(), Fail> {
-    const LINES: [Refused; 16] = [
-        (&["send=a", ""], 2, SpoolCause::NotKeyValue),
-        (&["print", "send=a"], 1, SpoolCause::NotKeyValue),
-        (&["send=a", "cap=1"], 2, SpoolCause::UnknownKey),
-        (&["send=a", "shingle=1"], 2, SpoolCause::UnknownKey),
-        (&["dead=0", "send=a"], 1, SpoolCause::UnknownKey),
-        (&["send=a", "most=1"], 2, SpoolCause::UnknownKey),
-        (&["send=a", "=a"], 2, SpoolCause::UnknownKey),
-        (&["send=a", "Send=a"], 2, SpoolCause::UnknownKey),
-        (&["send=a", "send =a"], 2, SpoolCause::UnknownKey),
-        (&["send="], 1, SpoolCause::BadValue),
-        (&["send=,a"], 1, SpoolCause::BadValue),
-        (&["send=a,"], 1, SpoolCause::BadValue),
-        (&["send=a", "send=b,,c"], 2, SpoolCause::BadValue),
-        (&["send=,"], 1, SpoolCause::BadValue),
-        (&["workers=0", "x", "send=a"], 1, SpoolCause::BadValue),
-        (&["x", "workers=0"], 1, SpoolCause::NotKeyValue),
-    ];
-    all_refused(&rt, rt.alloc(), &LINES)
-}
-
-#[test]
-fn each_cause_stands_at_each_key(rt: HostRuntime) -> Result<(), Fail> {
-    const LINES: [Refused; 21] = [
-        (&["send=a", "profile"], 2, SpoolCause::NotKeyValue),
-        (&["send=a", "profiles=c"], 2, SpoolCause::UnknownKey),
-        (
-            &["profile=c", "send=a", "profile="],
-            3,
-            SpoolCause::RepeatedKey,
-        ),
-        (&["send=a", "profile="], 2, SpoolCause::BadValue),
-        (&["send=a", "kernel"], 2, SpoolCause::NotKeyValue),
-        (&["send=a", "kernels=fs"], 2, SpoolCause::UnknownKey),
-        (
-            &["kernel=fs", "kernel=fs", "send=a"],
-            2,
-            SpoolCause::RepeatedKey,
-        ),
-        (&["kernel=floyd", "send=a"], 1, SpoolCause::BadValue),
-        (&["send=a", "grain"], 2, SpoolCause::NotKeyValue),
-        (&["send=a", "grains=1"], 2, SpoolCause::UnknownKey),
-        (
-            &["grain=0", "grain=16", "send=a"],
-            2,
-            SpoolCause::RepeatedKey,
-        ),
-        (&["grain=33", "send=a"], 1, SpoolCause::BadValue),
-        (&["send=a", "grain=x"], 2, SpoolCause::BadValue),
-        (&["send=a", "workers"], 2, SpoolCause::NotKeyValue),
-        (&["send=a", "worker=1"], 2, SpoolCause::UnknownKey),
-        (
-            &["workers=1", "send=a", "send=b", "workers=0"],
-            4,
-            SpoolCause::RepeatedKey,
-        ),
-        (&["send=a", "workers=65"], 2, SpoolCause::BadValue),
-        (&["send=a", "workers=01"], 2, SpoolCause::BadValue),
-        (&["send"], 1, SpoolCause::NotKeyValue),
-        (&["sends=a"], 1, SpoolCause::UnknownKey),
-        (&["send=a", "send="], 2, SpoolCause::BadValue),
-    ];
-    all_refused(&rt, rt.alloc(), &LINES)
-}
-
-#[test]
-fn no_sender_is_told_after_the_last_word(rt: HostRuntime) -> Result<(), Fail> {
-    const LINES: [Refused; 4] = [
-        (&[], 1, SpoolCause::NoSend),
-        (&["profile=tiny"], 2, SpoolCause::NoSend),
-        (
-            &["kernel=fs", "workers=2", "profile=x"],
-            4,
-            SpoolCause::NoSend,
-        ),
-        (&["kernel=fs", "workers=65"], 2, SpoolCause::BadValue),
-    ];
-    all_refused(&rt, rt.alloc(), &LINES)
-}
-
-#[test]
-fn a_ninth_sender_is_refused_whatever_its_value(rt: HostRuntime) -> Result<(), Fail> {
-    const LINES: [Refused; 3] = [
-        (
-            &[
-                "send=a", "send=a", "send=a", "send=a", "send=a", "send=a", "send=a", "send=a",
-                "send=a",
-            ],
-            9,
-            SpoolCause::BadValue,
-        ),
-        (
-            &[
-                "send=a",
-                "send=b",
-                "send=c",
-                "send=d",
-                "workers=2",
-                "send=e",
-                "send=f",
-                "send=g",
-                "send=h",
-                "send=,",
-            ],
-            10,
-            SpoolCause::BadValue,
-        ),
-        (
-            &[
-                "send=a", "send=b", "send=c", "send=d", "send=e", "send=f", "send=g", "send=h",
-                "cap=1", "send=i",
-            ],
-            9,
-            SpoolCause::UnknownKey,
-        ),
-    ];
-    all_refused(&rt, rt.alloc(), &LINES)
+    for &(line, word, cause) in &LINES {
+        let words = words_of(rt.alloc(), line)?;
+        let fault = SpoolFault { word, cause };
+        assert!(rt; read_spool_words(&words).err() == Some(fault), "{line:?}");
+    }
+    Ok(())
 }
 
 // The word of a sender whose names are its number and theirs, as `send=3-1,3-2`.
@@ -303,20 +279,7 @@ fn eight_senders_of_64_names_are_read(rt: HostRuntime) -> Result<(), Fail> {
 }
 
 #[test]
-fn a_sender_has_no_more_than_64_names(rt: HostRuntime) -> Result<(), Fail> {
-    for (count, is_taken) in [(1, true), (64, true), (65, false), (300, false)] {
-        let word = sender_word(rt.alloc(), 1, count)?;
-        let words = words_of(rt.alloc(), &[word.as_str()])?;
-        assert!(rt;
-            read_spool_words(&words).is_ok() == is_taken,
-            "{count} names"
-        );
-    }
-    Ok(())
-}
-
-#[test]
-fn names_have_no_more_than_255_bytes(rt: HostRuntime) -> Result<(), Fail> {
+fn a_sender_has_no_more_than_64_names_of_255_bytes(rt: HostRuntime) -> Result<(), Fail> {
     const WORDS: [(&str, &str, usize, bool); 6] = [
         ("send=a,", "x", 255, true),
         ("send=a,", "x", 256, false),
@@ -325,6 +288,14 @@ fn names_have_no_more_than_255_bytes(rt: HostRuntime) -> Result<(), Fail> {
         ("profile=", "x", 255, true),
         ("profile=", "x", 256, false),
     ];
+    for (count, is_taken) in [(1, true), (64, true), (65, false), (300, false)] {
+        let word = sender_word(rt.alloc(), 1, count)?;
+        let words = words_of(rt.alloc(), &[word.as_str()])?;
+        assert!(rt;
+            read_spool_words(&words).is_ok() == is_taken,
+            "{count} names"
+        );
+    }
     for &(key, letter, count, is_taken) in &WORDS {
         let name = letter.repeat(rt.alloc(), count)?;
         let word = format!(in rt.alloc(); "{key}{name}")?;
