@@ -47,6 +47,9 @@ PIXELS = {
     "CMYK": Pixels("Cyan, Magenta, Yellow and Black", "cmyk_8", 6, 8),
     "Black": Pixels("Black, 1 Bit a Pixel", "black_1", 3, 1),
 }
+# What is fed, by the sizes of sheets, and where: the only choice of MediaType and InputSlot, its text, its name in IPP
+MEDIA = {"paper": ("Plain", "Paper", "stationery"), "labels": ("Labels", "Labels", "labels")}
+SOURCE = ("Main", "Sheet Feeder", "main")
 INKS = {"k": "black", "c": "cyan", "m": "magenta", "y": "yellow"}
 HEADS = ("escp2-profile 1\n", "escp2-profile 2\n")
 
@@ -98,7 +101,7 @@ def ppd(profile, name, sheets):
     """
     return "\n".join([
         ppd_header(profile, name), ppd_filters(), ppd_profile(profile), ppd_sheets(profile, sheets),
-        ppd_custom_sheet(profile), ppd_choices(profile),
+        ppd_custom_sheet(profile), ppd_media(sheets), ppd_choices(profile),
         '*DefaultFont: Courier\n*Font Courier: Standard "(1.05)" Standard ROM', ""])
 
 
@@ -190,6 +193,16 @@ def ppd_custom_sheet(profile):
 *ParamCustomPageSize Orientation: 5 int 0 0'''
 
 
+def ppd_media(sheets):
+    """CUPS tells clients of media types and sources only if the PPD has them, and IPP Everywhere asks for both."""
+    return "\n".join(ppd_option(key, text, [(*choice[:2], "")], 10) for key, text, choice in (
+        ("MediaType", "Media Type", media_of(sheets)), ("InputSlot", "Media Source", SOURCE)))
+
+
+def media_of(sheets):
+    return MEDIA["labels" if sheets[0].ipp_name.startswith("om_label") else "paper"]
+
+
 def ppd_choices(profile):
     resolution = resolution_of(profile)
     models = [
@@ -265,9 +278,9 @@ IPP_CONSTANT = (
     "keyword output-bin-default face-up", "keyword output-bin-supported face-up",
     "boolean page-ranges-supported false", "keyword print-content-optimize-default auto",
     "keyword print-content-optimize-supported auto", "keyword print-rendering-intent-default auto",
-    "keyword print-rendering-intent-supported auto", "keyword media-source-supported main",
+    "keyword print-rendering-intent-supported auto", f"keyword media-source-supported {SOURCE[2]}",
     'octetString printer-input-tray "type=sheetFeedManual;mediafeed=0;mediaxfeed=0;maxcapacity=-2;level=-2;status=0;'
-    'name=main;"')
+    f'name={SOURCE[2]};"')
 
 
 def ipp_printer(profile, name):
@@ -301,7 +314,7 @@ def ipp_media(profile, sheets):
     least, most = bounds_of_custom_sheet(profile)
     custom = [ipp_custom_name("min", least), ipp_custom_name("max", most)]
     names = ",".join([*(sheet.ipp_name for sheet in sheets), *custom])
-    kind = "labels" if sheets[0].ipp_name.startswith("om_label") else "stationery"
+    kind = media_of(sheets)[2]
     lines = [
         f"ATTR keyword media-default {sheets[0].ipp_name}", f"ATTR keyword media-supported {names}",
         f"ATTR keyword media-ready {sheets[0].ipp_name}", f"ATTR keyword media-type-supported {kind}"]
@@ -316,7 +329,7 @@ def ipp_media(profile, sheets):
 def ipp_column(profile, sheet, kind):
     """The members of a sheet's media-col."""
     members = [f"MEMBER collection media-size {ipp_size(sheet)}", f"MEMBER keyword media-size-name {sheet.ipp_name}",
-               "MEMBER keyword media-source main", f"MEMBER keyword media-type {kind}"]
+               f"MEMBER keyword media-source {SOURCE[2]}", f"MEMBER keyword media-type {kind}"]
     members += [f"MEMBER integer media-{side}-margin {margin}" for side, margin in ipp_margins(profile)]
     return "{ " + " ".join(members) + " }"
 
