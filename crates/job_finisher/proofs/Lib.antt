@@ -1,0 +1,4 @@
+pub mod Pieces
+pub mod PartBounds
+pub mod PassedBytes
+pub mod FinishedJobs

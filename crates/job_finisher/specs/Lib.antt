@@ -1,0 +1,4 @@
+pub mod Hearing
+pub mod Passing
+pub mod Outcome
+pub mod Job

@@ -1,0 +1,4 @@
+pub mod Tallies
+pub mod Lines
+pub mod Sheets
+pub mod Examples

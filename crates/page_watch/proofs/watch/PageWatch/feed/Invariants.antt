@@ -1,0 +1,16 @@
+use Rattle.std.proofs.Common.{◌≡◌, ℕ, ◌+◌, ◌-◌, ◌≤◌, ◌++◌, false, List, length, take}
+use Rattle.escp2_reader.specs.Reading.{is_failed_of}
+use Rattle.page_watch.proofs.Pieces.{ReadsOn}
+use Rattle.page_watch.specs.Watching.{Watched, fed_to}
+use Rattle.page_watch.proofs.watch.PageWatch.feed.Given as goal
+
+abbrev pub invariant-commands : goal.invariant-commands
+invariant-commands l = record {
+  within : l.at ≤ length l.piece;
+  is_open : is_failed_of l.self.reader ≡ false;
+  fed : fed_to l.self ≡ fed_to l.fn.self + l.at;
+  reads : (sofar : List ℕ) → Watched l.fn.self sofar → ReadsOn l.telling l.self sofar (sofar ++ take l.at l.piece);
+}
+
+abbrev pub decreases-commands : goal.decreases-commands
+decreases-commands l = length l.piece - l.at
