@@ -1,0 +1,4 @@
+pub mod Sides
+pub mod Passing
+pub mod Outcome
+pub mod Promises
