@@ -1,13 +1,14 @@
 -- Planes take the dots of a band of tiles, row by row and ink by ink.
-use Rattle.std.proofs.Common.{◌≡◌, ◌≢◌, ◌⊎◌, ℕ, ◌+◌, ◌-◌, ◌*◌, ◌<◌, ◌≤◌, false, List, length, get_or, map, min, sym, ◌∙◌, ap, arith, inl, inr}
+use Rattle.std.proofs.Common.{◌≡◌, ◌⊎◌, ℕ, ◌+◌, ◌-◌, ◌*◌, ◌<◌, ◌≤◌, false, List, length, get_or, map, min, refl, replicate, sym, ◌∙◌, ap, arith, inl, inr}
 use Rattle.std.proofs.lemmas.Bool.{cases_eq}
 use Rattle.base_definitions.specs.Counting.{count_from}
-use Rattle.dot_planes.specs.Bands.{HasTileRows, PutsBand, PutsBandInk, PutsBandRow}
-use Rattle.dot_planes.specs.Tables.{DotTable, HasSizeOf, IsPackedRow, PutsRow, dot, row_dot, row_len}
+use Rattle.dot_planes.specs.Bands.{ClearsRows, HasTileRows, HaveNoDots, PutsBand, PutsBandInk, PutsBandRow}
+use Rattle.dot_planes.specs.Tables.{DotTable, HasSizeOf, IsPackedRow, PutsRow, dot, row_at, row_dot, row_len}
 use Rattle.dot_planes.specs.Tiles.{tile_dot}
 use Rattle.dot_planes.specs.declared.tiles.TileDots.{TileDots}
 use Rattle.dot_planes.proofs.PackedRows.{counted-len, dot_of_packed, row_packed}
-use Rattle.dot_planes.proofs.PutTiles.{same_size}
+use Rattle.dot_planes.proofs.PutDots.{dot-in}
+use Rattle.dot_planes.proofs.PutTiles.{blank_bytes, same_size}
 
 -- ---- a row
 
@@ -61,4 +62,48 @@ all_band_inks old new at height j rows end tiles end_is rows_is some r = record 
     | inl above ↦ inl above
     | inr rest ↦ inr (elim rest [ inl below ↦ omega arith | inr past ↦ omega arith ])
   ]));
+}
+
+-- ---- rows without dots
+
+-- a row more
+pub clears_more : (old mid new : DotTable) (i first r : ℕ) → first + r < old.rows
+    → ClearsRows old mid i first r → ClearsRows mid new i (first + r) 1 → ClearsRows old new i first (r + 1)
+clears_more old mid new i first r room before now = grind (arith, cases_eq, same_size)
+
+-- Where no tile has a dot, the rows of a band have none.
+pub clears_band : (old new : DotTable) (first rows i : ℕ) (tiles : List TileDots) → rows ≤ 32 → old.width + 62 ≤ 64 * length tiles
+    → HaveNoDots tiles i (length tiles) → ClearsRows old new i first rows → PutsBandInk old new first rows i tiles
+clears_band old new first rows i tiles low enough dotless it = record {
+  size = it.size;
+  pixels = λ row offset c x d down in_tile across place.
+      it.none (first + row) x (omega arith) (omega (arith, down)) across
+      ∙ sym (dotless.none c (64 * row + offset) d (omega (arith, down, low, across, place, enough)));
+  others = it.others;
+}
+
+-- a row that is put without dots
+pub clears_put : (old new : DotTable) (i y : ℕ) (put : List ℕ) → PutsRow old new i y put → IsPackedRow old.width put
+    → ((x : ℕ) → row_dot put x ≡ false) → ClearsRows old new i y 1
+clears_put old new i y put p packed_row none_on = record {
+  size = p.size;
+  none = λ r x from to inside.
+      ap (λ n. dot new i n x) (omega (arith, from, to))
+      ∙ p.row packed_row.dots packed_row.width_is packed_row.is x
+      ∙ sym (dot_of_packed packed_row.dots put x packed_row.is) ∙ none_on x;
+  others = λ k m x low other. p.others k m (elim other [
+    | inl ink ↦ inl ink
+    | inr rest ↦ inr (elim rest [ inl above ↦ (λ same. absurd (omega (arith, same, above))) | inr past ↦ (λ same. absurd (omega (arith, same, past))) ])
+  ]) low x;
+}
+
+-- a row that is blank already
+pub clears_unstored : (t : DotTable) (i y : ℕ) → row_at (row_len t.width) t.bytes (y * t.inks + i) ≡ replicate (row_len t.width) 0
+    → i < t.inks → ClearsRows t t i y 1
+clears_unstored t i y blank ink = record {
+  size = record { width = refl; rows = refl; inks = refl };
+  none = λ r x from to inside.
+      ap (λ n. dot t i n x) (omega (arith, from, to)) ∙ dot-in t i y x ink ∙ ap (λ (row : List ℕ). row_dot row x) blank
+      ∙ blank_bytes (row_len t.width) x;
+  others = λ k m x low other. refl;
 }

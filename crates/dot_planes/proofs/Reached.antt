@@ -2,7 +2,7 @@
 use Rattle.std.proofs.Common.{◌≡◌, ℕ, ◌+◌, ◌-◌, ◌*◌, ◌<◌, ◌≤◌, List, ◌++◌, length, take, drop, replicate, set, max}
 use Rattle.std.proofs.Common.{◌∙◌, ap, arith, inl, inr, length-append, length-drop}
 use Rattle.std.proofs.lemmas.Bool.{cases_lt}
-use Rattle.std.proofs.lemmas.List.{append_assoc, drop-append-le, drop-replicate, length-replicate, length-set, replicate-append-replicate}
+use Rattle.std.proofs.lemmas.List.{append-nil, append_assoc, drop-append-le, drop-replicate, length-replicate, length-set, replicate-append-replicate}
 use Rattle.std.proofs.lemmas.List.{set-append_left, take-append-le, take-replicate}
 use Rattle.std.proofs.Math.Seq.{drop-append-add}
 use Rattle.std.proofs.Math.Nat.{mul-le-mul_right}
@@ -76,3 +76,9 @@ reached_rows len there n end items reached is many end_is =
           let most : max there (n + 1) ≡ n + 1 = omega (arith, past) in
           omega (arith, long, rows, many, end_is, ap (λ m. m * len) most)
     ]
+
+-- bytes that reach so far already
+pub padded-there : (end : ℕ) (xs : List ℕ) → end ≤ length xs → padded end xs ≡ xs
+padded-there end xs there =
+    let none : end - length xs ≡ 0 = omega (arith, there) in
+    ap (λ m. xs ++ replicate {A = ℕ} m 0) none ∙ append-nil xs

@@ -1,5 +1,5 @@
 -- The dots of a band of tiles, put into planes.
-use Rattle.std.specs.Prelude.{◌≡◌, ◌≢◌, ◌⊎◌, ℕ, ◌+◌, ◌*◌, ◌<◌, ◌≤◌, List, slice_index_or}
+use Rattle.std.specs.Prelude.{◌≡◌, ◌≢◌, ◌⊎◌, ℕ, ◌+◌, ◌*◌, ◌<◌, ◌≤◌, false, List, [], slice_index_or}
 use Rattle.dot_planes.specs.Tables.{DotTable, HasSizeOf, dot, row_dot}
 use Rattle.dot_planes.specs.Tiles.{IsTilePixel, tile_dot}
 use Rattle.dot_planes.specs.declared.tiles.TileDots.{TileDots}
@@ -36,3 +36,13 @@ HasTileRow bytes tile i r = (offset : ℕ) → offset < 64 → row_dot bytes off
 pub record HasTileRows (wide : List ℕ) (tiles : List TileDots) (i r n : ℕ) : Type 0 where
   pub dots : (c offset : ℕ) (d : TileDots) → c < n → offset < 64
       → row_dot wide (64 * c + offset) ≡ tile_dot (slice_index_or tiles c d).bits i r offset
+
+-- None of the first n tiles has a dot of an ink.
+pub record HaveNoDots (tiles : List TileDots) (i n : ℕ) : Type 0 where
+  pub none : (c k : ℕ) (d : TileDots) → c < n → row_dot (slice_index_or (slice_index_or tiles c d).bits i []) k ≡ false
+
+-- An ink has no dots in `rows` rows from row `first` on, and all other rows are unchanged.
+pub record ClearsRows (old new : DotTable) (i first rows : ℕ) : Type 0 where
+  pub size : HasSizeOf old new
+  pub none : (y x : ℕ) → first ≤ y → y < first + rows → x < old.width → dot new i y x ≡ false
+  pub others : (k y x : ℕ) → y < old.rows → (k ≢ i) ⊎ ((y < first) ⊎ (first + rows ≤ y)) → dot new k y x ≡ dot old k y x

@@ -1,8 +1,8 @@
 //! A row of all tiles of a band, laid over a packed row at once.
-ghost use Rattle.dot_planes.specs.Bands.{HasTileRow, HasTileRows};
+ghost use Rattle.dot_planes.specs.Bands.{HasTileRow, HasTileRows, HaveNoDots};
 ghost use Rattle.dot_planes.specs.Tables.{row_dot, row_len};
 ghost use Rattle.base_definitions.specs.Limits.{most_columns, most_row_bytes};
-ghost use Rattle.std.specs.Prelude.{false, length, slice_index, ℕ, ◌*◌, ◌+◌, ◌<◌, ◌≡◌, ◌≤◌};
+ghost use Rattle.std.specs.Prelude.{[], false, length, slice_index, slice_index_or, true, ℕ, ◌*◌, ◌+◌, ◌<◌, ◌≡◌, ◌≤◌};
 
 use crate::bit_rows::{row_eight, row_part};
 use crate::places::are_bytes;
@@ -13,19 +13,50 @@ use base_definitions::MOST_ROW_BYTES;
 /// columns more than the row.
 pub(crate) const MOST_BAND_BYTES: usize = MOST_ROW_BYTES + 16;
 
-// The eight bytes of row r of a tile. An ink that the tile does not have has no dots.
+// The bytes of an ink of a tile. An ink that the tile does not have has no dots.
+#[inline(always)]
+fn tile_ink(tile: &TileDots, ink: u8) -> &[u8; 256]
+    ensures { (k : ℕ) → row_dot result.now k ≡ row_dot (slice_index_or tile.now.bits ink []) k }
+{
+    if ink < tile.bits.inks() {
+        tile.bits.ink(ink)
+    } else {
+        &NO_DOTS
+    }
+}
+
+// The eight bytes of row r of a tile.
 #[inline(always)]
 fn tile_row(tile: &TileDots, ink: u8, r: usize) -> &[u8]
     requires { r < 32 }
     ensures dots { HasTileRow result.now tile.now ink r }
     ensures len { length result.now ≡ 8 }
 {
-    let bytes = if ink < tile.bits.inks() {
-        tile.bits.ink(ink)
-    } else {
-        &NO_DOTS
-    };
-    &bytes[8 * r..8 * r + 8]
+    &tile_ink(tile, ink)[8 * r..8 * r + 8]
+}
+
+// Whether all bytes are 0. The loop has a known length and no test, so that it becomes vectors.
+#[inline(always)]
+fn are_zero(bytes: &[u8; 256]) -> bool
+    ensures { result ≡ true → (k : ℕ) → slice_index bytes.now k ≡ 0 }
+{
+    let mut all = 0;
+    for k in 0..256 {
+        all |= bytes[k];
+    }
+    all == 0
+}
+
+/// Whether no tile has a dot of an ink.
+pub(crate) fn have_no_dots(tiles: &[TileDots], ink: u8) -> bool
+    ensures { result ≡ true → HaveNoDots tiles.now ink (length tiles.now) }
+{
+    for c in 0..tiles.len() {
+        if !are_zero(tile_ink(&tiles[c], ink)) {
+            return false;
+        }
+    }
+    true
 }
 
 // Puts the eight bytes of a tile at its column.
@@ -75,6 +106,16 @@ fn take_steps(row: &mut [u8], from: &[u8], step: usize)
         2 => take_eights(row, from, 4),
         _ => take_eights(row, from, 6),
     }
+}
+
+/// Turns off all dots of a packed row.
+pub(crate) fn clear_dots(row: &mut [u8])
+    ensures none { (x : ℕ) → row_dot row.new x ≡ false }
+    ensures len { length row.new ≡ length row.old }
+    ensures bytes { (k : ℕ) → slice_index row.new k < 256 }
+{
+    row.fill(0);
+    are_bytes(row);
 }
 
 // Clears the spare bits of a row.

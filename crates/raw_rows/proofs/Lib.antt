@@ -5,3 +5,4 @@ pub mod LinePuts
 pub mod Numbers
 pub mod InkSets
 pub mod Parts
+pub mod WhiteTiles

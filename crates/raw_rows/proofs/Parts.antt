@@ -8,7 +8,7 @@ use Rattle.pwg_definitions.specs.declared.pages.Kind.TheVariants.{Gray8, Black8,
 use Rattle.separation_definitions.specs.Amounts.{pixel_at}
 use Rattle.tile_shape.specs.declared.tiles.Place.{Place}
 use Rattle.ink_separation.proofs.Chunks.{fewer_bytes}
-use Rattle.raw_rows.specs.Gathering.{HasPart, HasParts, PutsPart, part_bytes, first_pixel}
+use Rattle.raw_rows.specs.Gathering.{HasPart, HasParts, IsPart, PutsPart, part_bytes, first_pixel}
 use Rattle.raw_rows.specs.Lines.{first_byte, kept_bytes, pixels_before}
 use Rattle.raw_rows.specs.Raw.{line_in, table_of}
 use Rattle.dot_planes.specs.Gathered.{shape_of}
@@ -99,16 +99,11 @@ part_row raw p r bytes part has same k low =
     part_pixel raw.separator.kind part (line_in raw (32 * p.j + r)) (first_pixel raw p r) k low (λ n few. same n few ∙ has.byte n few)
 
 -- a row whose bytes are put
-pub part_put : (raw : RawRows) (p : Place) (r : ℕ) (line part old new : List ℕ) → line ≡ line_in raw (32 * p.j + r)
+pub part_put : (raw : RawRows) (p : Place) (r : ℕ) (part old new : List ℕ) → IsPart raw p r part
     → part_bytes raw (first_pixel raw p r) ≤ length part
-    → ((n : ℕ) → n < part_bytes raw (first_pixel raw p r)
-    → get_or part n 0 ≡ get_or line (first_byte raw.separator.kind (first_pixel raw p r) + n) 0)
     → ((n : ℕ) → n < length part → get_or new (256 * r + n) 0 ≡ get_or part n 0)
     → ((n : ℕ) → (n < 256 * r) ⊎ (256 * r + length part ≤ n) → get_or new n 0 ≡ get_or old n 0) → PutsPart raw p r old new
-part_put raw p r line part old new is long of put others = record {
-  part = record {
-    byte = λ k low. put k (omega (arith, long, low)) ∙ of k low
-        ∙ ap (λ (xs : List ℕ). get_or xs (first_byte raw.separator.kind (first_pixel raw p r) + k) 0) is;
-  };
+part_put raw p r part old new is long put others = record {
+  part = record { byte = λ k low. put k (omega (arith, long, low)) ∙ is.byte k low };
   above = λ n low. others n (inl low);
 }

@@ -44,3 +44,7 @@ pixels_before Black8 x = 0
 pixels_before Rgb8 x = 0
 pixels_before Black1 x = x % 8
 pixels_before Cmyk8 x = 0
+
+-- the byte of white pixels: each of a white unit
+abbrev pub white_byte : Kind → ℕ
+white_byte kind = slice_index (row_of kind).white 0

@@ -24,8 +24,8 @@ impl RawRows {
         }
     }
 
-    // Sets row r of a tile in every ink, as far as the rows go.
-    fn gather_row(&self, place: Place, r: usize, out: &mut TileAmounts)
+    /// Sets row r of a tile in every ink, as far as the rows go.
+    pub(crate) fn gather_row(&self, place: Place, r: usize, out: &mut TileAmounts)
         requires { r < 32 }
         ensures { GathersInks (table_of self.now) place r out.old.inks out.new.inks }
     {

@@ -1,5 +1,6 @@
 //! Rows of a slab whose lines are kept as they were read. Pixels are separated when a tile gathers them, by the thread
-//! that works the tile. A repeated line is kept once.
+//! that works the tile. A tile whose bytes are all white is not separated pixel by pixel: its first row is, and all its
+//! pixels have the amounts of the first. A repeated line is kept once.
 //!
 //! `RawRows` are `TileRows`: the amounts of a row are those of the separator's formula at the pixels of the row's line.
 //! `make` allocates the memory for all lines, or returns `Memory`. `put_line` gives a row a line, and `repeat_line`
@@ -9,6 +10,7 @@
 mod gathering;
 mod kept;
 mod lines;
+mod white;
 mod whole;
 
 pub use kept::RawRows;

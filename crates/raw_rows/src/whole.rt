@@ -1,11 +1,11 @@
 //! Tiles that have all their pixels.
 ghost use Rattle.dot_planes.specs.Gathered.{HasTile, shape_of};
 ghost use Rattle.pwg_definitions.specs.Header.{line_bytes, row_of};
-ghost use Rattle.raw_rows.specs.Gathering.{GathersInks, HasParts, PutsPart, first_pixel, part_bytes};
+ghost use Rattle.raw_rows.specs.Gathering.{GathersInks, HasParts, IsPart, PutsPart, first_pixel, part_bytes};
 ghost use Rattle.raw_rows.specs.Lines.{first_byte, pixels_before};
 ghost use Rattle.raw_rows.specs.Raw.{table_of};
 ghost use Rattle.tile_shape.specs.Geometry.{IsWhole};
-ghost use Rattle.std.specs.Prelude.{◌+◌, ◌<◌, ◌≡◌, ◌≤◌};
+ghost use Rattle.std.specs.Prelude.{length, ◌+◌, ◌<◌, ◌≡◌, ◌≤◌};
 
 use crate::kept::RawRows;
 use crate::lines::put;
@@ -72,17 +72,28 @@ impl RawRows {
         part_at(self.separator.kind(), left + 64 * place.c as usize - 2 * r)
     }
 
-    // Copies the bytes of row r of a tile.
+    // The bytes of row r of a tile.
     #[inline(always)]
     #[tactic(auto, using(tile_shape::proofs::Wholes::inside_of))]
+    pub(crate) fn row_bytes(&self, place: Place, r: usize) -> &[u8]
+        requires r { r < 32 }
+        requires whole { IsWhole (shape_of (table_of self.now)) place }
+        ensures are { IsPart self.now place r result.now }
+        ensures many { length result.now ≡ part_bytes self.now (first_pixel self.now place r) }
+    {
+        let line = self.line((32 * place.j as usize + r) as u32);
+        let part = self.part_of(place, r);
+        &line[part.first..part.first + part.many]
+    }
+
+    // Copies the bytes of row r of a tile.
+    #[inline(always)]
     fn copy_row(&self, place: Place, r: usize, bytes: &mut TileBytes)
         requires r { r < 32 }
         requires whole { IsWhole (shape_of (table_of self.now)) place }
         ensures { PutsPart self.now place r bytes.old bytes.new }
     {
-        let line = self.line((32 * place.j as usize + r) as u32);
-        let part = self.part_of(place, r);
-        put(bytes, 256 * r, &line[part.first..part.first + part.many]);
+        put(bytes, 256 * r, self.row_bytes(place, r));
     }
 
     // Copies the bytes of a tile. The loop does nothing but copy, so that many of its reads are on their way at once:
@@ -110,11 +121,15 @@ impl RawRows {
             .separate_into(row, part.before, 64, 64 * r, out);
     }
 
-    /// Gathers a tile that has all its pixels: first its bytes, then its amounts.
+    /// Gathers a tile that has all its pixels. If they are not all white: first its bytes, then its amounts.
     pub(crate) fn gather_whole(&self, place: Place, bytes: &mut TileBytes, out: &mut TileAmounts)
         requires { IsWhole (shape_of (table_of self.now)) place }
         ensures { HasTile (table_of self.now) place out.new.inks }
     {
+        if self.is_white(place) {
+            self.gather_white(place, out);
+            return;
+        }
         self.copy_rows(place, bytes);
         for r in 0..32 {
             self.separate_row(bytes, place, r, out);

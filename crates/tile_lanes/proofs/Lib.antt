@@ -14,3 +14,5 @@ pub mod LaneCells
 pub mod LaneTile
 pub mod Squares
 pub mod LaneSquares
+pub mod BlankTiles
+pub mod ZeroTests

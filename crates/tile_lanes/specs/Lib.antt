@@ -4,3 +4,4 @@ pub mod Held
 pub mod Paces
 pub mod Lanes
 pub mod Square
+pub mod Blank

@@ -19,6 +19,7 @@ mod step;
 mod transpose;
 mod value;
 
+use crate::blank::is_blank;
 use diffusion_kernel::Kernel;
 use edges::{put_above, put_corner, put_left, take_bottom, take_lower_corner, take_right};
 use pace::Pace;
@@ -118,6 +119,11 @@ pub(crate) fn diffuse_lanes(
         → DiffusesInk (table_of kernel) (plane_with shape amount) place
         side.old bottom.old corner.old side.new bottom.new corner.new bits.new }
 {
+    // Then no error arises, and the edges stay 0.
+    if is_blank(tile, side, bottom, corner) {
+        *bits = [0; 256];
+        return;
+    }
     let pace = Pace::of(kernel);
     put_above(pace, field, bottom);
     put_corner(pace, field, corner);

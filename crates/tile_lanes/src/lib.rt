@@ -4,9 +4,11 @@
 //! `diffuse_tile`: take any plane that has the tile's amounts, and any errors that solve the kernel's rule for this
 //! plane. If the three edges handed in hold these errors, so do the three handed on, and each dot is the rule's. There
 //! is no dot left of the window, right of it or below it (`done`). The errors handed on are from -2040 to 2039
-//! (`side_fits`, `bottom_fits`, `corner_fits`). The contract fixes no order of pixels.
+//! (`side_fits`, `bottom_fits`, `corner_fits`). The contract fixes no order of pixels. If a tile has no amount and
+//! all errors handed in are 0, no pixel is visited.
 #![tactic(auto)]
 
+mod blank;
 mod field;
 mod lanes;
 mod tile;

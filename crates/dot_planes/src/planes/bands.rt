@@ -1,12 +1,12 @@
 //! Bands of tiles, put into planes.
-ghost use Rattle.dot_planes.specs.Bands.{PutsBand, PutsBandInk, PutsBandRow};
+ghost use Rattle.dot_planes.specs.Bands.{ClearsRows, PutsBand, PutsBandInk, PutsBandRow};
 ghost use Rattle.dot_planes.specs.Tiles.{slab_of};
 ghost use Rattle.base_definitions.specs.Limits.{most_row_bytes, most_rows};
 ghost use Rattle.std.specs.Prelude.{length, ◌*◌, ◌+◌, ◌<◌, ◌≡◌, ◌≤◌};
 ghost use Rattle.tile_shape.specs.Geometry.{columns_of};
 
 use super::{Planes, row_len};
-use crate::band_rows::{MOST_BAND_BYTES, put_side_by_side, put_wide};
+use crate::band_rows::{MOST_BAND_BYTES, clear_dots, have_no_dots, put_side_by_side, put_wide};
 use crate::places::{reach, row_start_across};
 use crate::tiles::TileDots;
 
@@ -23,7 +23,36 @@ impl Planes {
         let mut wide = [0; MOST_BAND_BYTES];
         let rows = (height - 32 * j).min(32);
         for ink in 0..self.inks {
-            self.put_band_ink(at + 32 * j, rows, ink, tiles, &mut wide);
+            if have_no_dots(tiles, ink) {
+                self.clear_rows(ink, at + 32 * j, rows);
+            } else {
+                self.put_band_ink(at + 32 * j, rows, ink, tiles, &mut wide);
+            }
+        }
+    }
+
+    // Turns off all dots of an ink in `rows` rows from row `first` on.
+    fn clear_rows(&mut self, ink: u8, first: u32, rows: u32)
+        requires slab { first + rows ≤ self.old.rows }
+        requires most { first + rows ≤ most_rows }
+        requires ink { ink < self.old.inks }
+        ensures { ClearsRows self.old self.new ink first rows }
+    {
+        for r in 0..rows {
+            self.clear_row(ink, first + r);
+        }
+    }
+
+    // Turns off all dots of a row of an ink. A row that is not stored has none.
+    fn clear_row(&mut self, ink: u8, y: u32)
+        requires ink { ink < self.old.inks }
+        requires y { y < self.old.rows }
+        ensures { ClearsRows self.old self.new ink y 1 }
+    {
+        let len = row_len(self.width);
+        let start = row_start_across(self.inks, self.rows, len, ink, y);
+        if start < self.bytes.len() {
+            clear_dots(&mut self.bytes[start..start + len]);
         }
     }
 

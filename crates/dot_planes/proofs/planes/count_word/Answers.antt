@@ -1,4 +1,4 @@
-use Rattle.std.proofs.Common.{◌≡◌, ℕ, ◌<◌, List, [], ◌∷◌, length, slice_index, arith, refl, ◌∙◌, Fits, w8}
+use Rattle.std.proofs.Common.{◌≡◌, ℕ, ◌<◌, List, [], ◌∷◌, length, slice_index, arith, refl, Fits, w8}
 use Rattle.dot_planes.proofs.WordCounts.{word-ones}
 use Rattle.dot_planes.proofs.planes.count_word.Goals as goal
 

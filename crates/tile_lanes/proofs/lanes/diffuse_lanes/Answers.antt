@@ -1,9 +1,15 @@
 use Rattle.std.proofs.Common.{subst, sym}
 use Rattle.tile_lanes.specs.Lanes.{IsFilled, SolvesTile}
 use Rattle.tile_lanes.specs.Paces.{end_of}
+use Rattle.tile_lanes.proofs.BlankTiles.{blank_done, zeros_are}
 use Rattle.tile_lanes.proofs.LaneTile.{all_bits, bottom_of, corner_of, loaded_above, loaded_left, right_of}
 use Rattle.tile_lanes.proofs.RowTile.{dots_done}
 use Rattle.tile_lanes.proofs.lanes.diffuse_lanes.Goals as goal
+
+pub returns-then-is_blank-clause-done : goal.returns-then-is_blank-clause-done
+returns-then-is_blank-clause-done c = λ f has e s ready.
+    blank_done c.args.kernel c.args.shape c.args.place f e c.args.tile.now _ _ _ _ has s ready
+    (c.is_blank.ensures.0 c.if-is_blank.true) (zeros_are 256)
 
 pub returns-clause-done : goal.returns-clause-done
 returns-clause-done c = λ f has e s ready.

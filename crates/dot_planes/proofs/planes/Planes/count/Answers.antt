@@ -1,4 +1,4 @@
-use Rattle.std.proofs.Common.{◌≡◌, ◌+◌, ℕ, arith, ◌∙◌}
+use Rattle.std.proofs.Common.{arith}
 use Rattle.dot_planes.proofs.PackedRows.{counted-len, packed-len, row_count, sum_counted}
 use Rattle.dot_planes.proofs.planes.Planes.count.Goals as goal
 

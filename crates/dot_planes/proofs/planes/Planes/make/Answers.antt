@@ -1,4 +1,4 @@
-use Rattle.std.proofs.Common.{◌≡◌, ◌*◌, ◌+◌, ◌-◌, ◌++◌, ◌%◌, ◌/◌, false, ℕ, ap, arith, inl, inr, length, ◌∙◌}
+use Rattle.std.proofs.Common.{◌≡◌, ◌*◌, ◌+◌, false, ℕ, ap, arith, inl, inr, length, ◌∙◌}
 use Rattle.std.proofs.lemmas.Bool.{cases_lt}
 use Rattle.dot_planes.specs.Planes.{all_bytes, table_of}
 use Rattle.dot_planes.specs.Tables.{row_at, row_dot, row_len}
