@@ -14,14 +14,14 @@ pub copies-one_byte : (n b : ℕ) → copies n (b ∷ []) ≡ replicate n b
 copies-one_byte zero b = refl
 copies-one_byte (suc n) b = ap (λ bs. b ∷ bs) (copies-one_byte n b)
 
-copies-add : (m n : ℕ) (unit : List ℕ) → copies (m + n) unit ≡ copies m unit ++ copies n unit
+pub copies-add : (m n : ℕ) (unit : List ℕ) → copies (m + n) unit ≡ copies m unit ++ copies n unit
 copies-add zero n unit = ap (λ k. copies k unit) (let e : 0 + n ≡ n = omega arith in e)
 copies-add (suc m) n unit =
     ap (λ k. copies k unit) (let e : suc m + n ≡ suc (m + n) = omega arith in e)
     ∙ ap (λ bs. unit ++ bs) (copies-add m n unit) ∙ sym (append_assoc unit (copies m unit) (copies n unit))
 
 -- a prefix of copies and more bytes
-take-copies : (m len : ℕ) (unit rest : List ℕ) → length unit ≡ len → take (m * len) (copies m unit ++ rest) ≡ copies m unit
+pub take-copies : (m len : ℕ) (unit rest : List ℕ) → length unit ≡ len → take (m * len) (copies m unit ++ rest) ≡ copies m unit
 take-copies m len unit rest sized = grind (arith, common_steps, length-copies, take-append_seam)
 
 -- a first unit is whole

@@ -1,6 +1,7 @@
 -- Where in a group a reader stands, and what it reads the bytes that follow as.
-use Rattle.std.specs.Prelude.{◌≡◌, ℕ, zero, suc, ◌+◌, ◌-◌, ◌*◌, ◌<◌, ◌≤◌, nat_lt, if◌then◌else◌, List, [], ◌++◌, length, take, drop}
-use Rattle.pwg_definitions.specs.Header.{KindRow}
+use Rattle.std.specs.Prelude.{◌≡◌, ℕ, zero, suc, ◌+◌, ◌-◌, ◌*◌, ◌/◌, ◌<◌, ◌≤◌, nat_lt, if◌then◌else◌, List, [], ◌++◌, length, take, drop}
+use Rattle.pwg_definitions.specs.declared.pages.Kind.{Kind}
+use Rattle.pwg_definitions.specs.Header.{KindRow, row_of}
 use Rattle.pwg_definitions.specs.Groups.{GroupFront, GroupRead, copies, group_at, line_at}
 use Rattle.pwg_definitions.specs.Groups.GroupRead.{Group, Part, Wrong}
 use Rattle.pwg_lines.specs.declared.states.State.{State}
@@ -39,6 +40,10 @@ abbrev pub least_repeats : State → ℕ
 least_repeats Start = 0
 least_repeats (Failed fault) = 0
 least_repeats other = 1
+
+-- how many units a block of 64 bytes holds
+abbrev pub block_units : Kind → ℕ
+block_units kind = 64 / (row_of kind).unit
 
 -- more bytes are to be read
 abbrev pub IsOpen : State → Type 0
@@ -95,3 +100,10 @@ pub record Stands (row : KindRow) (units lines : ℕ) (state : State) (repeats :
   pub enough : left ≤ most
   pub is : (rest : List ℕ) → group_at row units lines (sofar ++ rest)
       ≡ read_on state row units lines most left (record { repeats = repeats; line = line; place = length sofar }) part rest
+
+-- Before a packet, a reader reads these bytes, which make its line longer and leave fewer units of it, and stands
+-- before a packet again.
+abbrev pub Reads : ℕ → ℕ → ℕ → List ℕ → List ℕ → List ℕ → Type 0
+Reads unit left left' line line' bytes = (row : KindRow) (units lines repeats : ℕ) (sofar : List ℕ) → row.unit ≡ unit
+    → Stands row units lines Packet repeats line [] left sofar
+    → Stands row units lines Packet repeats line' [] left' (sofar ++ bytes)

@@ -10,7 +10,8 @@
 //! After `begin`, after `restart` and after each `Line` the reader is before a group (`IsAnew`) and stands for no bytes
 //! (`anew_stands` in `proofs/Feeding.antt`). A struct that holds a reader may keep `IsAnew` as a ghost field. `begin`
 //! allocates one line. `restart` returns `Memory` only if the new line is longer than the old one; the reader is then
-//! unchanged. `feed` allocates no memory.
+//! unchanged. `feed` allocates no memory. If the piece has all bytes of a packet, the packet is read in a loop that
+//! puts blocks of 64 bytes into the line, past the end of what the packet gives, but not past the end of the line.
 //!
 //! `code_line` appends exactly the canonical group of a line, or returns `Memory` and appends nothing. It succeeds if
 //! the output has room for one byte more than two for each byte of the line. `fill_units` puts copies of a unit into a
@@ -22,6 +23,7 @@ mod buffer;
 mod laws;
 mod reader;
 mod states;
+mod whole_packets;
 mod writer;
 
 pub use answers::{Fed, Fill};

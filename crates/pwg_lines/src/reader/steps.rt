@@ -7,7 +7,8 @@ ghost use Rattle.pwg_definitions.specs.Header.{row_of};
 use crate::buffer::{fill_bytes, fill_units};
 use crate::reader::LineReader;
 use crate::states::{State, state_after, units_of};
-use pwg_definitions::LineFault;
+use crate::whole_packets::read_whole;
+use pwg_definitions::{Kind, LineFault};
 
 impl LineReader {
     /// Reads one part of a group, at least a byte, and returns its length.
@@ -20,7 +21,7 @@ impl LineReader {
     {
         match self.state {
             State::Start => self.feed_start(bytes[0]),
-            State::Packet => self.feed_packet(bytes[0]),
+            State::Packet => return self.feed_packets(bytes),
             State::Run { units, read } => return self.feed_run(units, read, bytes),
             State::Literal(wanted) => return self.feed_literal(wanted, bytes),
             State::Full | State::Failed(_) => {}
@@ -42,6 +43,47 @@ impl LineReader {
         self.filled = 0;
         self.left = self.line.len() / self.form.kind.unit();
         self.state = State::Packet;
+    }
+
+    // Reads whole packets, and the first byte of the next packet if there is one, and gives the number of bytes.
+    fn feed_packets(&mut self, bytes: &[u8]) -> usize
+        requires some { 0 < length bytes.now }
+        requires state { self.old.state ≡ State.Packet }
+        ensures least { 0 < result }
+        ensures most { result ≤ length bytes.now }
+        ensures takes { Takes self.old self.new (take result bytes.now) }
+    {
+        let used = self.feed_whole(bytes);
+        if used == bytes.len() {
+            return used;
+        }
+        self.feed_packet(bytes[used]);
+        used + 1
+    }
+
+    // Reads whole packets, of any number, and gives the number of bytes. Each kind is a constant of its own call, so
+    // that each has a loop of its own.
+    fn feed_whole(&mut self, bytes: &[u8]) -> usize
+        requires { self.old.state ≡ State.Packet }
+        ensures most { result ≤ length bytes.now }
+        ensures state { self.new.state ≡ State.Packet }
+        ensures takes { Takes self.old self.new (take result bytes.now) }
+    {
+        let (line, filled, left) = (&mut self.line, self.filled, self.left);
+        let place = match self.form.kind {
+            Kind::Rgb8 => read_whole(line, filled, left, Kind::Rgb8, bytes),
+            Kind::Cmyk8 => read_whole(line, filled, left, Kind::Cmyk8, bytes),
+            Kind::Gray8 | Kind::Black8 | Kind::Black1 => read_whole(
+                line,
+                filled,
+                left,
+                Kind::Gray8,
+                bytes,
+            ),
+        };
+        self.filled = place.filled;
+        self.left = place.left;
+        place.used
     }
 
     // Reads the first byte of a packet.
