@@ -1,8 +1,9 @@
 -- How a run ends, from how its job was passed on.
-use Rattle.std.proofs.Common.{◌≡◌, ℕ, ◌≤◌, true, false, List, [], ◌++◌, Option, Result, Ok, Err, inl, inr, refl, sym, ◌∙◌, ap, subst, arith}
+use Rattle.std.proofs.Common.{◌≡◌, ℕ, ◌≤◌, true, false, List, [], ◌++◌, Option, None, Some, IsSome, Result, Ok, Err, inl, inr, refl, sym, ◌∙◌, ap, subst, arith}
 use Rattle.std.proofs.Common.{append-nil}
 use Rattle.std.proofs.KnownBytes.{Appends-nil, Appends-trans, Consumes-nil}
 use Rattle.std.specs.Io.KnownBytes.{Appends, Consumes}
+use Rattle.std.specs.Prelude.{is_some}
 use Rattle.buffered_bytes.specs.Outside.{Outside}
 use Rattle.driver_answer.specs.declared.answer.Answer.TheVariants as answer
 use Rattle.escp2_definitions.specs.Commands.{commands, commands_from}
@@ -11,9 +12,9 @@ use Rattle.finish_core.proofs.Going.{sink_from, tells_as, tells_both, tells_none
 use Rattle.finish_core.specs.declared.halts.Halt.{Halt}
 use Rattle.finish_core.specs.declared.halts.Halt.TheVariants as halt
 use Rattle.finish_core.specs.declared.parts.Parts.{Parts}
-use Rattle.finish_core.specs.Outcome.{EndsBetween, FinishOutcome, Finishes, FinishesPart, all_told, answer_of}
+use Rattle.finish_core.specs.Outcome.{EndsBetween, FinishOutcome, Finishes, FinishesPart, TakesNothing, all_told, answer_of}
 use Rattle.finish_core.specs.Passing.{FailsEnd, GoesOn, HaltsBetween, HaltsPart, IsAskHalt, PassesAll, PassesJob, ends_page, job_of, page_in_hand}
-use Rattle.finish_core.specs.Sides.{IsLater, Moment, ShelfLacks, Sides, Tells, err_from, out_from}
+use Rattle.finish_core.specs.Sides.{IsLater, Moment, ShelfHas, ShelfLacks, Sides, Tells, err_from, out_from}
 use Rattle.finish_definitions.specs.declared.state.PageState.TheVariants.{Between}
 use Rattle.finish_definitions.specs.Finished.{ending_bytes, page_state, whole_commands, whole_from}
 use Rattle.job_finisher.specs.Passing.{state_of}
@@ -61,7 +62,7 @@ sides_at input files f a b = record {
   shelf = record { files = files; faults_before = f; faults_now = b.shelf_faults };
 }
 
--- ---- where the page needs no end
+-- ---- if the page needs no end
 
 ends_between : (telling : Telling) (input : Outside) (files : Option (List NamedText)) (f : ℕ) (a b : Moment) (bytes : List ℕ)
     → Consumes input.before input.now bytes → HaltsBetween telling a b [] bytes → EndsBetween telling [] (sides_at input files f a b)
@@ -88,10 +89,12 @@ finishes_part telling input files f a b bytes page taken halts =
       bytes = bytes;
       front = halts.front;
       rest = halts.rest;
-      later = halts.later;
+      next = halts.next;
+      more = halts.more;
       taken = taken;
       split = halts.split;
       grow = halts.grow;
+      near = halts.near;
       page_is = halts.page_is;
       middle = halts.middle;
       first = goes_written telling a middle halts.front halts.goes;
@@ -100,13 +103,22 @@ finishes_part telling input files f a b bytes page taken halts =
           (goes_told telling a middle halts.front halts.goes);
     }
 
+-- A shelf that shows what it holds does not both lack and have a text.
+shown_apart : (stop : Option (List ℕ)) (files : Option (List NamedText)) → ShelfLacks stop files → ShelfHas stop files → IsSome files → ⊥
+shown_apart None files lacks has shown = has
+shown_apart (Some name) None lacks has shown = let no : false ≡ true = shown in cc
+shown_apart (Some name) (Some held) lacks has shown = let no : false ≡ true = sym (ap is_some lacks) ∙ has in cc
+
 -- The job was passed on, and its page needs no end.
 pub ends_without : (telling : Telling) (stop : Option (List ℕ)) (files : Option (List NamedText)) (parts : Parts) (input : Outside) (f : ℕ)
     (a b : Moment) (passed : Result (Unit {0}) Halt) → ends_page passed ≡ false → f ≤ a.shelf_faults → ShelfLacks stop files
     → PassesJob telling stop files parts input a b passed → FinishOutcome telling stop [] (sides_at input files f a b) (answer_of passed)
 ends_without telling stop files parts input f a b (Ok u) without early lacks job = absurd (let no : true ≡ false = without in cc)
-ends_without telling stop files parts input f a b (Err halt.Asked) without early lacks job =
-    inr (ends_between telling input files f a b job.bytes job.taken job.is.0, job.is.1)
+ends_without telling stop files parts input f a b (Err halt.Asked) without early lacks job = inr (record {
+  ends = ends_between telling input files f a b job.bytes job.taken job.is.0;
+  has = job.is.1;
+  at_once = λ shown. absurd (shown_apart stop files lacks job.is.1 shown);
+})
 ends_without telling stop files parts input f a b (Err halt.Shelf) without early lacks job =
     inr (
       ends_between telling input files f a b job.bytes job.taken job.is.0,
@@ -142,10 +154,17 @@ ends_at_first telling stop files left g a now why asked = by_why why asked
           (tells_none a.err a.err_faults a.err_faults);
     }
 
+    nothing : TakesNothing [] (sides_at (sink_from left left g g) files a.shelf_faults a (record a { shelf_faults = now }))
+    nothing = record {
+      input = record { same = refl; faults = refl };
+      out = record { same = refl; faults = refl };
+      tells = tells_none a.err a.err_faults a.err_faults;
+    }
+
     by_why : (why : Halt) → IsAskHalt stop files a.shelf_faults now why
         → FinishOutcome telling stop [] (sides_at (sink_from left left g g) files a.shelf_faults a (record a { shelf_faults = now }))
         (answer_of (Err why))
-    by_why halt.Asked asked = inr (between, asked)
+    by_why halt.Asked asked = inr (record { ends = between; has = asked; at_once = λ shown. nothing })
     by_why halt.Shelf asked = inr (between, asked)
     by_why halt.Memory asked = inr (between, asked)
     by_why (halt.Write page) asked = absurd asked
@@ -267,10 +286,13 @@ end_failed telling stop files parts input f a b d passed why ended lacks job ear
         bytes = some.bytes;
         front = front;
         rest = [];
-        later = ending_bytes (state_of parts.finisher);
+        next = ending_bytes (state_of parts.finisher);
+        more = [];
         taken = some.taken;
         split = sym (append-nil front);
-        grow = ap (λ state. whole_commands front ++ ending_bytes state) (sym stands.state_is);
+        grow = ap (λ state. whole_commands front ++ ending_bytes state) (sym stands.state_is)
+            ∙ sym (append-nil (whole_commands front ++ ending_bytes (state_of parts.finisher)));
+        near = inr (ap ending_bytes stands.state_is);
         page_is = ap page_in_hand stands.tally_is;
         middle = b.out;
         first = goes_written telling a b front some.passes.0;

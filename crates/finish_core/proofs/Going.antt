@@ -106,9 +106,11 @@ stop_halts telling stop files parts a b x full (halt.Write page) stops quiet = (
   record {
     front = x;
     rest = stops.1.rest;
-    later = stops.1.later;
+    next = stops.1.next;
+    more = stops.1.more;
     split = stops.1.split;
     grow = stops.1.grow;
+    near = stops.1.near;
     page_is = stops.1.page_is;
     middle = a.out;
     goes = record {
@@ -197,9 +199,11 @@ halts_behind telling stop files parts a b d x y full (halt.Write page) early lat
   record {
     front = halts.1.front;
     rest = halts.1.rest;
-    later = halts.1.later;
+    next = halts.1.next;
+    more = halts.1.more;
     split = halts.1.split;
     grow = halts.1.grow;
+    near = halts.1.near;
     page_is = halts.1.page_is;
     middle = halts.1.middle;
     goes = goes_on telling a b (with_out halts.1.middle d) x y halts.1.front early (later_with b d halts.1.middle late) goes halts.1.goes;

@@ -16,7 +16,7 @@ use Rattle.escp2_definitions.specs.declared.stops.JobStop.{JobStop}
 use Rattle.escp2_definitions.specs.declared.stops.JobStop.TheVariants as job_stop
 use Rattle.escp2_reader.specs.Jobs.{JobMayGoOn}
 use Rattle.finish_core.proofs.Going.{sink_from, tells_as, tells_both}
-use Rattle.finish_core.specs.Outcome.{EndsBetween, FinishOutcome, Finishes, FinishesPart, FinishesRefused, MeaningOutcome, RunOutcome, TakesNothing, all_told, telling_of}
+use Rattle.finish_core.specs.Outcome.{EndsBetween, FinishOutcome, Finishes, FinishesAll, FinishesPart, FinishesRefused, MeaningOutcome, RunOutcome, TakesNothing, all_told, telling_of}
 use Rattle.finish_core.specs.Passing.{job_of, most_job}
 use Rattle.finish_core.specs.Promises.{FinishPromises, open_lines}
 use Rattle.finish_core.specs.Sides.{ShelfHas, ShelfLacks, Sides, Tells}
@@ -34,10 +34,11 @@ use Rattle.page_tally.specs.Tallies.{no_tally, tally_from}
 use Rattle.page_watch.specs.Watching.{told}
 use Rattle.printer_definitions.specs.Printer.{Printer}
 use Rattle.weave_base.specs.Causes.{Rose}
+use Rattle.weave_base.specs.Shelf.{NamedText}
 
 -- ---- the answer's line
 
--- the sides of a run, where the error sink went on
+-- the sides of a run, if the error sink went on
 abbrev pub told_after : Sides → Option (List ℕ) → ℕ → Sides
 told_after s z h = record s { err = sink_from s.err.before z s.err.faults_before h }
 
@@ -81,10 +82,12 @@ part_last telling s z h line page last part = record {
   bytes = part.bytes;
   front = part.front;
   rest = part.rest;
-  later = part.later;
+  next = part.next;
+  more = part.more;
   taken = part.taken;
   split = part.split;
   grow = part.grow;
+  near = part.near;
   page_is = part.page_is;
   middle = part.middle;
   first = part.first;
@@ -109,7 +112,11 @@ finish_last telling stop s z h line answer.Done last (inl all) = inl (record {
   may = all.may;
   lacks = all.lacks;
 })
-finish_last telling stop s z h line answer.Done last (inr ends) = inr (between_last telling s z h line last ends.0, ends.1)
+finish_last telling stop s z h line answer.Done last (inr stops) = inr (record {
+  ends = between_last telling s z h line last stops.ends;
+  has = stops.has;
+  at_once = λ shown. nothing_last s z h line last (stops.at_once shown);
+})
 finish_last telling stop s z h line (answer.Job offset cause) last refused = record {
   bytes = refused.bytes;
   finishes = finishes_last telling s z h line refused.bytes last refused.finishes;
@@ -180,14 +187,25 @@ on_done telling stop s bytes answer.Done known never zero (inl all) =
     ∙ all_taken s.input.before s.input.now bytes all.bytes known all.finishes.taken all.at_end in
     let P : List ℕ → Type 0 = λ bs. Appends s.out.before s.out.now (finished bs) in
     subst P same all.finishes.writes
-on_done telling stop s bytes answer.Done known never zero (inr ends) = absurd (never ends.1)
+on_done telling stop s bytes answer.Done known never zero (inr stops) = absurd (never stops.has)
 on_done telling stop s bytes other known never zero outcome = absurd (omega arith)
 
 on_stop : (telling : Telling) (stop : Option (List ℕ)) (s : Sides) (a : Answer) → (ShelfLacks stop s.shelf.files → ⊥) → status_of a ≡ 0
-    → FinishOutcome telling stop (line_of a) s a → EndsBetween telling [] s
+    → FinishOutcome telling stop (line_of a) s a → TakesNothing [] s
 on_stop telling stop s answer.Done never zero (inl all) = absurd (never all.lacks)
-on_stop telling stop s answer.Done never zero (inr ends) = ends.0
+on_stop telling stop s answer.Done never zero (inr stops) = stops.at_once (shown_by stop s.shelf.files never)
+  where
+    shown_by : (stop : Option (List ℕ)) (files : Option (List NamedText)) → (ShelfLacks stop files → ⊥) → IsSome files
+    shown_by None files never = absurd (never tt)
+    shown_by (Some name) None never = absurd (never tt)
+    shown_by (Some name) (Some held) never = refl
 on_stop telling stop s other never zero outcome = absurd (omega arith)
+
+on_zero : (telling : Telling) (stop : Option (List ℕ)) (s : Sides) (a : Answer) → status_of a ≡ 0
+    → FinishOutcome telling stop (line_of a) s a → FinishesAll telling stop [] s ⊎ EndsBetween telling [] s
+on_zero telling stop s answer.Done zero (inl all) = inl all
+on_zero telling stop s answer.Done zero (inr stops) = inr stops.ends
+on_zero telling stop s other zero outcome = absurd (omega arith)
 
 on_job : (telling : Telling) (stop : Option (List ℕ)) (s : Sides) (a : Answer) → status_of a ≡ 8 → FinishOutcome telling stop (line_of a) s a
     → (offset : ℕ) × (cause : JobStop) × FinishesRefused telling stop (line_of (answer.Job offset cause)) s offset cause
@@ -261,6 +279,7 @@ promises words s a outcome =
       finished = λ request bytes means known never zero.
           on_done (telling_of request) (stop_named words) s bytes a known never zero (subst L means outcome);
       stopped = λ request means never zero. on_stop (telling_of request) (stop_named words) s a never zero (subst L means outcome);
+      between = λ request means zero. on_zero (telling_of request) (stop_named words) s a zero (subst L means outcome);
       refused = λ request means eight. on_job (telling_of request) (stop_named words) s a eight (subst L means outcome);
       read = λ request means four. on_read (telling_of request) (stop_named words) s a four (subst L means outcome);
       part = λ request means five. on_write (telling_of request) (stop_named words) s a five (subst L means outcome);

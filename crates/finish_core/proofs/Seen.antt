@@ -1,5 +1,5 @@
 -- What the parts of a job took of the next bytes.
-use Rattle.std.proofs.Common.{◌≡◌, ℕ, true, false, List, [], ◌∷◌, ◌++◌, length, take, drop, refl, sym, ◌∙◌, ap, append_assoc, append-nil}
+use Rattle.std.proofs.Common.{◌≡◌, ℕ, true, false, List, [], ◌∷◌, ◌++◌, length, take, drop, inl, refl, sym, ◌∙◌, ap, arith, append_assoc, append-nil}
 use Rattle.std.proofs.Common.{take-append-drop}
 use Rattle.buffered_bytes.specs.Outside.{Outside}
 use Rattle.escp2_definitions.specs.declared.command.Command.{Command}
@@ -10,7 +10,7 @@ use Rattle.escp2_definitions.specs.Commands.{CommandList, Entry, commands}
 use Rattle.escp2_definitions.specs.JobEnds.{list_stop}
 use Rattle.finish_core.proofs.Bytes.{no_fault, whole_more}
 use Rattle.finish_core.specs.declared.parts.Parts.{Parts}
-use Rattle.finish_core.specs.Passing.{PassesSeen, StopsAtFault, StopsPart, is_init, is_reset, job_of, most_job, page_in_hand}
+use Rattle.finish_core.specs.Passing.{BringsCommands, PassesSeen, StopsAtFault, StopsPart, is_init, is_reset, job_of, most_job, page_in_hand}
 use Rattle.finish_definitions.specs.declared.state.PageState.{PageState}
 use Rattle.finish_definitions.specs.declared.state.PageState.TheVariants.{Between}
 use Rattle.finish_definitions.specs.Finished.{ending_bytes, page_after, page_from, page_state, whole_commands}
@@ -22,8 +22,7 @@ use Rattle.page_watch.specs.declared.watch.Event.{Event}
 use Rattle.page_watch.specs.declared.watch.PageWatch.{PageWatch}
 use Rattle.page_watch.specs.declared.watch.SeenState.{SeenState}
 use Rattle.page_watch.specs.declared.watch.SeenState.TheVariants as seen
-use Rattle.page_watch.specs.Watching.{EndsWith, IsSeen, HasFault, seen_lines, tally_behind, tally_of, told}
-use Rattle.weave_base.proofs.Parting.{part_of_front}
+use Rattle.page_watch.specs.Watching.{EndsWith, GrowsQuietly, IsSeen, HasFault, seen_lines, tally_behind, tally_of, told}
 
 -- ---- the bytes that were taken
 
@@ -75,25 +74,53 @@ seen_extends seen.Fault telling watch before after rest is = record {
   is = is.0.whole_stays rest ∙ sym (append-nil (whole_commands after));
 }
 
+-- the commands that the next bytes make whole, if none is of interest
+grows_quietly : (telling : Telling) (before after next : List ℕ) → whole_commands after ≡ whole_commands before ++ next
+    → GrowsQuietly telling before after → BringsCommands telling before next
+grows_quietly telling before after next whole grows = record {
+  after = after;
+  whole = whole;
+  between = grows.between;
+  last = [];
+  grow = grows.grow ∙ sym (append-nil ((commands before).entries ++ grows.between));
+  quiet = grows.quiet;
+  few = omega arith;
+}
+
+-- the commands that the next bytes make whole
+brings : (state : SeenState) (telling : Telling) (watch : PageWatch) (before after next : List ℕ)
+    → whole_commands after ≡ whole_commands before ++ next → IsSeen state telling watch before after → BringsCommands telling before next
+brings seen.More telling watch before after next whole is = grows_quietly telling before after next whole is.1
+brings (seen.Due event) telling watch before after next whole is = record {
+  after = after;
+  whole = whole;
+  between = is.1.between;
+  last = is.1.last ∷ [];
+  grow = is.1.grow;
+  quiet = is.1.quiet;
+  few = omega arith;
+}
+brings seen.Fault telling watch before after next whole is = grows_quietly telling before after next whole is.1
+
 -- A proper prefix of what the next bytes make whole was written.
 pub stops_part : (telling : Telling) (watch : PageWatch) (out : Outside) (sofar piece full : List ℕ) (used : ℕ) (state : SeenState) (page : ℕ)
     → job_of full ≡ sofar ++ piece → IsSeen state telling watch sofar (sofar ++ take used piece)
-    → PassesPart out sofar (sofar ++ take used piece) → page ≡ page_in_hand (tally_behind sofar) → StopsPart out sofar full page
+    → PassesPart out sofar (sofar ++ take used piece) → page ≡ page_in_hand (tally_behind sofar) → StopsPart telling out sofar full page
 stops_part telling watch out sofar piece full used state page cut is passes page_is =
     let after : List ℕ = sofar ++ take used piece in
     let more = seen_extends state telling watch sofar after (drop used piece) is in
     let ending : List ℕ = ending_bytes (page_state (job_of full)) in
-    let whole : whole_commands (job_of full) ≡ whole_commands sofar ++ (passes.bytes ++ more.later) =
-    ap whole_commands (job_split sofar piece full used cut) ∙ more.is ∙ ap (λ bs. bs ++ more.later) passes.grow
-    ∙ append_assoc (whole_commands sofar) passes.bytes more.later in
+    let whole : whole_commands (job_of full) ≡ (whole_commands sofar ++ passes.bytes) ++ more.later =
+    ap whole_commands (job_split sofar piece full used cut) ∙ more.is ∙ ap (λ bs. bs ++ more.later) passes.grow in
     record {
       rest = piece;
-      later = (passes.bytes ++ more.later) ++ ending;
+      next = passes.bytes;
+      more = more.later ++ ending;
       split = cut;
-      grow = ap (λ bs. bs ++ ending) whole ∙ append_assoc (whole_commands sofar) (passes.bytes ++ more.later) ending;
+      grow = ap (λ bs. bs ++ ending) whole ∙ append_assoc (whole_commands sofar ++ passes.bytes) more.later ending;
+      near = inl (brings state telling watch sofar after passes.bytes passes.grow is);
       page_is = page_is;
-      part = part_of_front out.before out.now (passes.bytes ++ more.later) ending
-          (part_of_front out.before out.now passes.bytes more.later passes.writes);
+      part = passes.writes;
     }
 
 -- ---- a fault

@@ -9,7 +9,7 @@ use Rattle.escp2_definitions.specs.JobEnds.{job_end}
 use Rattle.escp2_reader.specs.Jobs.{JobMayGoOn}
 use Rattle.finish_core.specs.declared.halts.Halt.{Halt}
 use Rattle.finish_core.specs.declared.halts.Halt.TheVariants as halt
-use Rattle.finish_core.specs.Passing.{job_of, most_job, page_in_hand}
+use Rattle.finish_core.specs.Passing.{IsNext, job_of, most_job, page_in_hand}
 use Rattle.finish_core.specs.Sides.{ShelfHas, ShelfLacks, Sides, Tells}
 use Rattle.finish_definitions.specs.declared.state.PageState.TheVariants.{Between}
 use Rattle.finish_definitions.specs.Finished.{finished, page_state, whole_commands}
@@ -30,7 +30,7 @@ all_told telling bytes = told telling bytes ++ cut_lines telling (tally_behind b
 -- In what follows, `last` are the bytes that the error sink gets after all lines of pages.
 
 -- These bytes were taken of the source. The sink grew by what they become: the whole commands of the first `most_job`
--- bytes, and the end of their page. Where the error sink did not fail, it got their lines.
+-- bytes, and the end of their page. If the error sink did not fail, it got their lines.
 pub record Finishes (telling : Telling) (last : List ℕ) (s : Sides) (bytes : List ℕ) : Type 0 where
   pub taken : Consumes s.input.before s.input.now bytes
   pub writes : Appends s.out.before s.out.now (finished (job_of bytes))
@@ -50,19 +50,21 @@ pub record EndsBetween (telling : Telling) (last : List ℕ) (s : Sides) : Type 
   pub tells : Tells s.err (told telling front ++ last)
 
 -- Bytes were taken of the source. The sink grew by the whole commands of the first of them, which are told, and then by
--- a proper prefix of what follows of the finished job. The page is the one in hand behind these commands.
+-- a proper prefix of what the next write was to bring. The page is the one in hand behind these commands.
 pub record FinishesPart (telling : Telling) (last : List ℕ) (s : Sides) (page : ℕ) : Type 0 where
   pub bytes : List ℕ
   pub front : List ℕ
   pub rest : List ℕ
-  pub later : List ℕ
+  pub next : List ℕ
+  pub more : List ℕ
   pub taken : Consumes s.input.before s.input.now bytes
   pub split : job_of bytes ≡ front ++ rest
-  pub grow : finished (job_of bytes) ≡ whole_commands front ++ later
+  pub grow : finished (job_of bytes) ≡ (whole_commands front ++ next) ++ more
+  pub near : IsNext telling front next
   pub page_is : page ≡ page_in_hand (tally_behind front)
   pub middle : Option (List ℕ)
   pub first : Appends s.out.before middle (whole_commands front)
-  pub part : AppendsPart middle s.out.now later
+  pub part : AppendsPart middle s.out.now next
   pub tells : Tells s.err (told telling front ++ last)
 
 -- The input was read to its end, and its job is finished.
@@ -95,10 +97,17 @@ pub record TakesNothing (last : List ℕ) (s : Sides) : Type 0 where
   pub out : IsUntouched s.out
   pub tells : Tells s.err last
 
+-- The shelf has the text that stops the run, and the run ends between pages. If the shelf shows what it holds, nothing
+-- was taken.
+pub record StopsBetween (telling : Telling) (stop : Option (List ℕ)) (last : List ℕ) (s : Sides) : Type 0 where
+  pub ends : EndsBetween telling last s
+  pub has : ShelfHas stop s.shelf.files
+  pub at_once : IsSome s.shelf.files → TakesNothing last s
+
 -- How a run ends that passes on a job, by its answer.
 abbrev pub FinishOutcome : Telling → Option (List ℕ) → List ℕ → Sides → Answer → Type 0
 FinishOutcome telling stop last s answer.Done =
-    FinishesAll telling stop last s ⊎ (EndsBetween telling last s × ShelfHas stop s.shelf.files)
+    FinishesAll telling stop last s ⊎ StopsBetween telling stop last s
 FinishOutcome telling stop last s (answer.Job offset cause) = FinishesRefused telling stop last s offset cause
 FinishOutcome telling stop last s answer.Read =
     FinishesRead telling stop last s ⊎ (EndsBetween telling last s × Rose s.shelf.faults_before s.shelf.faults_now)

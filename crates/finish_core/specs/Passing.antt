@@ -1,10 +1,11 @@
 -- How a job is passed on, from one moment of a run to another.
-use Rattle.std.specs.Prelude.{◌≡◌, ℕ, List, [], ◌++◌, take, Option, None, IsSome, Result, Ok, Err, Bool, true, false}
+use Rattle.std.specs.Prelude.{◌≡◌, ℕ, ◌≤◌, ◌⊎◌, List, [], ◌++◌, length, take, Option, None, IsSome, Result, Ok, Err, Bool, true, false}
 use Rattle.std.specs.Io.KnownBytes.{Consumes, IsAtEnd}
 use Rattle.buffered_bytes.specs.Outside.{HasRisen, Outside}
 use Rattle.escp2_definitions.specs.declared.command.Command.{Command}
 use Rattle.escp2_definitions.specs.declared.command.Command.TheVariants as c
 use Rattle.escp2_definitions.specs.declared.stops.JobStop.{JobStop}
+use Rattle.escp2_definitions.specs.Commands.{Entry, commands}
 use Rattle.escp2_definitions.specs.JobEnds.{job_end}
 use Rattle.escp2_reader.specs.Jobs.{JobMayGoOn}
 use Rattle.finish_core.specs.declared.halts.Halt.{Halt}
@@ -22,7 +23,7 @@ use Rattle.page_tally.specs.Tallies.{number_up_to}
 use Rattle.page_watch.specs.declared.watch.SeenState.{SeenState}
 use Rattle.page_watch.specs.declared.watch.SeenState.TheVariants as seen
 use Rattle.page_watch.specs.declared.watch.Event.{Event}
-use Rattle.page_watch.specs.Watching.{EndsWith, Watched, seen_lines, tally_behind, tally_of, told}
+use Rattle.page_watch.specs.Watching.{AllQuiet, EndsWith, Watched, seen_lines, tally_behind, tally_of, told}
 use Rattle.weave_base.specs.Causes.{Rose}
 use Rattle.weave_base.specs.Parts.{AppendsPart}
 use Rattle.weave_base.specs.Shelf.{NamedText}
@@ -68,6 +69,21 @@ pub record GoesOn (telling : Telling) (from to : Moment) (before after : List �
 
 -- ---- why a job is not passed on
 
+-- The next bytes are the commands that some bytes have more than the first ones. At most the last of these commands is
+-- of interest.
+pub record BringsCommands (telling : Telling) (front next : List ℕ) : Type 0 where
+  pub after : List ℕ
+  pub whole : whole_commands after ≡ whole_commands front ++ next
+  pub between : List Entry
+  pub last : List Entry
+  pub grow : (commands after).entries ≡ ((commands front).entries ++ between) ++ last
+  pub quiet : AllQuiet telling between
+  pub few : length last ≤ 1
+
+-- what a write brings behind the first bytes: commands up to the next one of interest, or the end of the page
+abbrev pub IsNext : Telling → List ℕ → List ℕ → Type 0
+IsNext telling front next = BringsCommands telling front next ⊎ (next ≡ ending_bytes (page_state front))
+
 -- Of the job's bytes the first were passed on and told. They are whole commands, and end between pages.
 pub record HaltsBetween (telling : Telling) (from to : Moment) (before full : List ℕ) : Type 0 where
   pub front : List ℕ
@@ -81,20 +97,22 @@ pub record HaltsBetween (telling : Telling) (from to : Moment) (before full : Li
 abbrev pub with_out : Option (List ℕ) → Moment → Moment
 with_out held m = record m { out = held }
 
--- Of the job's bytes the first were passed on and told, and of what follows of the finished job a proper prefix was
--- written. The page is the one in hand behind the first bytes.
+-- Of the job's bytes the first were passed on and told. The write of what comes next of the finished job failed: it
+-- wrote a proper prefix. The page is the one in hand behind the first bytes.
 pub record HaltsPart (telling : Telling) (from to : Moment) (before full : List ℕ) (page : ℕ) : Type 0 where
   pub front : List ℕ
   pub rest : List ℕ
-  pub later : List ℕ
+  pub next : List ℕ
+  pub more : List ℕ
   pub split : job_of full ≡ front ++ rest
-  pub grow : finished (job_of full) ≡ whole_commands front ++ later
+  pub grow : finished (job_of full) ≡ (whole_commands front ++ next) ++ more
+  pub near : IsNext telling front next
   pub page_is : page ≡ page_in_hand (tally_behind front)
   pub middle : Option (List ℕ)
   pub goes : GoesOn telling from (with_out middle to) before front
-  pub part : AppendsPart middle to.out later
+  pub part : AppendsPart middle to.out next
 
--- where all of the job's bytes were passed on and told, as far as they are whole commands
+-- that all of the job's bytes were passed on and told, as far as they are whole commands
 abbrev pub PassesAll : Telling → Parts → Moment → Moment → List ℕ → List ℕ → Type 0
 PassesAll telling parts from to before full = GoesOn telling from to before (job_of full) × Stands parts (job_of full)
 
@@ -118,7 +136,7 @@ IsPieceEnd telling stop files parts from to before full (Err why) = IsHalt telli
 
 -- ---- an event
 
--- a fact where an event was seen
+-- a fact of the event, if one was seen
 abbrev pub OnDue : SeenState → (Event → Type 0) → Type 0
 OnDue seen.More P = Unit {0}
 OnDue (seen.Due event) P = P event
@@ -131,14 +149,16 @@ pub record PassesSeen (telling : Telling) (parts : Parts) (out : Outside) (befor
   pub lines : told telling after ≡ told telling before ++ seen_lines telling (tally_of parts.watch) state
   pub ends : OnDue state (λ event. EndsWith event telling before after)
 
--- Of the next bytes of a job a proper prefix of what they make whole was written.
-pub record StopsPart (out : Outside) (before full : List ℕ) (page : ℕ) : Type 0 where
+-- The write of the next commands of a job failed: it wrote a proper prefix.
+pub record StopsPart (telling : Telling) (out : Outside) (before full : List ℕ) (page : ℕ) : Type 0 where
   pub rest : List ℕ
-  pub later : List ℕ
+  pub next : List ℕ
+  pub more : List ℕ
   pub split : job_of full ≡ before ++ rest
-  pub grow : finished (job_of full) ≡ whole_commands before ++ later
+  pub grow : finished (job_of full) ≡ (whole_commands before ++ next) ++ more
+  pub near : IsNext telling before next
   pub page_is : page ≡ page_in_hand (tally_behind before)
-  pub part : AppendsPart out.before out.now later
+  pub part : AppendsPart out.before out.now next
 
 -- The job is refused at this offset. Its whole commands were passed on, and have no lines.
 pub record StopsAtFault (telling : Telling) (parts : Parts) (out : Outside) (before full : List ℕ) (offset : ℕ) (cause : JobStop) : Type 0 where
@@ -149,7 +169,7 @@ pub record StopsAtFault (telling : Telling) (parts : Parts) (out : Outside) (bef
 
 -- why the parts stop within the next bytes of a job
 abbrev pub IsStop : Telling → Parts → Outside → List ℕ → List ℕ → Halt → Type 0
-IsStop telling parts out before full (halt.Write page) = HasRisen out × StopsPart out before full page
+IsStop telling parts out before full (halt.Write page) = HasRisen out × StopsPart telling out before full page
 IsStop telling parts out before full (halt.Job offset cause) = StopsAtFault telling parts out before full offset cause
 IsStop telling parts out before full other = ⊥
 

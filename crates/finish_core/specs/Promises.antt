@@ -8,7 +8,7 @@ use Rattle.driver_answer.specs.declared.answer.Answer.TheVariants as answer
 use Rattle.escp2_definitions.specs.Commands.{Entry, commands}
 use Rattle.escp2_definitions.specs.Machine.{execute, start}
 use Rattle.escp2_definitions.specs.declared.stops.JobStop.{JobStop}
-use Rattle.finish_core.specs.Outcome.{EndsBetween, Finishes, FinishesPart, FinishesRefused, RunOutcome, TakesNothing, telling_of}
+use Rattle.finish_core.specs.Outcome.{EndsBetween, Finishes, FinishesAll, FinishesPart, FinishesRefused, RunOutcome, TakesNothing, telling_of}
 use Rattle.finish_core.specs.Passing.{job_of}
 use Rattle.finish_core.specs.Sides.{ShelfHas, ShelfLacks, Sides, Tells}
 use Rattle.finish_definitions.specs.declared.state.PageState.{PageState}
@@ -22,7 +22,7 @@ use Rattle.page_tally.specs.Sheets.{cut_sheet_lines, pages_alone, sheet_lines}
 use Rattle.printer_definitions.specs.Printer.{Printer}
 use Rattle.weave_base.specs.Causes.{Rose}
 
--- The status is that of an answer whose cause holds, and where the error sink did not fail, it got the answer's line
+-- The status is that of an answer whose cause holds, and if the error sink did not fail, it got the answer's line
 -- after all lines of pages.
 pub record IsAnswered (words : List (List ℕ)) (s : Sides) (status : ℕ) : Type 0 where
   pub a : Answer
@@ -47,9 +47,13 @@ pub record FinishPromises (words : List (List ℕ)) (s : Sides) (status : ℕ) :
   -- run.
   pub finished : (request : FinishRequest) (bytes : List ℕ) → finish_meaning words ≡ Ok request → s.input.before ≡ Some bytes
       → (ShelfHas (stop_named words) s.shelf.files → ⊥) → status ≡ 0 → Appends s.out.before s.out.now (finished bytes)
-  -- On 0 with the text on the shelf the output grew by whole pages of the input, byte for byte.
+  -- On 0, if the shelf shows that it has the text, nothing was taken or written.
   pub stopped : (request : FinishRequest) → finish_meaning words ≡ Ok request
-      → (ShelfLacks (stop_named words) s.shelf.files → ⊥) → status ≡ 0 → EndsBetween (telling_of request) [] s
+      → (ShelfLacks (stop_named words) s.shelf.files → ⊥) → status ≡ 0 → TakesNothing [] s
+  -- On 0 all of the input is finished, or the output grew by whole pages of it, byte for byte. This is for a shelf that
+  -- does not show what it holds.
+  pub between : (request : FinishRequest) → finish_meaning words ≡ Ok request → status ≡ 0
+      → FinishesAll (telling_of request) (stop_named words) [] s ⊎ EndsBetween (telling_of request) [] s
   -- On 8 the job is refused, is finished up to there, and the error line says where and why.
   pub refused : (request : FinishRequest) → finish_meaning words ≡ Ok request → status ≡ 8
       → (offset : ℕ) × (cause : JobStop)
@@ -58,7 +62,8 @@ pub record FinishPromises (words : List (List ℕ)) (s : Sides) (status : ℕ) :
   pub read : (request : FinishRequest) → finish_meaning words ≡ Ok request → status ≡ 4
       → (HasRisen s.input × FinishesSome request (line_of answer.Read) s)
       ⊎ (Rose s.shelf.faults_before s.shelf.faults_now × EndsBetween (telling_of request) (line_of answer.Read) s)
-  -- On 5 a write failed: a proper prefix of the finished job was written, and the error line has the page in hand.
+  -- On 5 a write failed: a proper prefix of the finished job was written, and the error line has the page in hand
+  -- before that write, which was to bring no more than the next command of interest or the end of the page.
   pub part : (request : FinishRequest) → finish_meaning words ≡ Ok request → status ≡ 5
       → HasRisen s.out × ((page : ℕ) × FinishesPart (telling_of request) (line_of (answer.Write page)) s page)
   -- On 7 nothing was taken, or the shelf lacked memory between two pages.

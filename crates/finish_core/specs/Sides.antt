@@ -6,7 +6,7 @@ use Rattle.weave_base.specs.Shelf.{NamedText, text_named}
 
 -- ---- sinks and shelves
 
--- A shelf: its texts, where it shows them, and its count of faults at the call and at the return. The texts stay.
+-- A shelf: its texts, if it shows them, and its count of faults at the call and at the return. The texts stay.
 pub record Texts : Type 0 where
   pub files : Option (List NamedText)
   pub faults_before : ℕ
@@ -23,7 +23,7 @@ pub record Sides : Type 0 where
   pub err : Outside
   pub shelf : Texts
 
--- where the sink did not fail, it grew by exactly these bytes
+-- if the sink did not fail, it grew by exactly these bytes
 abbrev pub Tells : Outside → List ℕ → Type 0
 Tells s bytes = IsCalm s → Appends s.before s.now bytes
 
@@ -41,7 +41,7 @@ ShelfLacks (Some name) (Some files) = text_named name files ≡ None
 
 -- ---- moments
 
--- The sinks and the shelf at a moment of a run: what the sinks hold, where they show it, and the counts of faults.
+-- The sinks and the shelf at a moment of a run: what the sinks hold, if they show it, and the counts of faults.
 pub record Moment : Type 0 where
   pub out : Option (List ℕ)
   pub out_faults : ℕ

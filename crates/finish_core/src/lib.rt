@@ -2,10 +2,11 @@
 //!
 //! `run` promises `FinishPromises`. There is an answer (`answered`): the status is its status, and its cause holds for
 //! what was read, written and asked (`RunOutcome`). On 0 the output grew by `finished` of all that the source had, its
-//! whole commands and the end of its page (`finished`), unless the shelf has the text that stops the run. Then the
-//! output has whole pages, byte for byte, and nothing after them (`stopped`). On 8 the job is refused (`refused`), and
-//! on 4 a read failed (`read`); the job up to there is finished. On 5 a write failed, and the output has a proper
-//! prefix of the finished job (`part`). On 7 memory ran out, before the first byte or where the shelf is asked
+//! whole commands and the end of its page (`finished`), unless the shelf has the text that stops the run. If the shelf
+//! shows this text, nothing is taken or written (`stopped`). If it does not show what it holds, the output may have
+//! whole pages alone, byte for byte (`between`). On 8 the job is refused (`refused`), and on 4 a read failed (`read`);
+//! the job up to there is finished. On 5 a write failed: the output has a proper prefix of the finished job, and the
+//! error line has the page in hand (`part`). On 7 memory ran out, before the first byte or where the shelf is asked
 //! (`memory`). On 1 a word is refused, and nothing is taken (`usage`). The lines of pages are those of a printer's
 //! sheets, in order, with the dots of each ink (`lines`).
 //!

@@ -19,12 +19,18 @@ use weave_base::{Shelf, Sink, Source};
 /// The most bytes of a job.
 pub const MOST_JOB: u64 = 4_611_686_018_427_387_904;
 
+/// How a job is passed on: where memory comes from, which lines are told, and which text stops the run.
+#[derive(Clone, Copy)]
+pub struct Passing<'a> {
+    pub alloc: Global,
+    pub telling: Telling,
+    pub stop: Option<&'a str>,
+}
+
 // Passes on the next bytes of a job up to the end of the next event, tells its lines, and asks the shelf behind a
 // reset. It returns how many bytes it passed on.
 fn pass_event<K: Sink, E: Sink, L: Shelf>(
-    alloc: Global,
-    telling: Telling,
-    stop: Option<&str>,
+    how: Passing<'_>,
     parts: &mut Parts,
     piece: &[u8],
     out: &mut K,
@@ -39,13 +45,13 @@ fn pass_event<K: Sink, E: Sink, L: Shelf>(
     ensures reads { IfOk result (λ used. (sofar : List ℕ) → Reads parts.old sofar
         → Reads parts.new (sofar ++ take used piece.now)) }
     ensures goes { IfOk result (λ used. (sofar : List ℕ) → Reads parts.old sofar
-        → GoesOn telling
+        → GoesOn how.entry.telling
         (moment_of K.held K.faults E.held E.faults L.faults out.old err.old shelf.old)
         (moment_of K.held K.faults E.held E.faults L.faults out.new err.new shelf.new)
         sofar (sofar ++ take used piece.now)) }
     ensures halt { IfErr result (λ why. (sofar full : List ℕ) → Reads parts.old sofar
         → job_of full ≡ sofar ++ piece.now
-        → IsHalt telling (option_map (λ name. name.now) stop.entry) (L.files shelf.old) parts.new
+        → IsHalt how.entry.telling (option_map (λ name. name.now) how.entry.stop) (L.files shelf.old) parts.new
         (moment_of K.held K.faults E.held E.faults L.faults out.old err.old shelf.old)
         (moment_of K.held K.faults E.held E.faults L.faults out.new err.new shelf.new) sofar full why) }
     ensures later { IsLater
@@ -53,17 +59,15 @@ fn pass_event<K: Sink, E: Sink, L: Shelf>(
         (moment_of K.held K.faults E.held E.faults L.faults out.new err.new shelf.new) }
     ensures stay { L.files shelf.new ≡ L.files shelf.old }
 {
-    let seen = parts.pass_on(piece, telling, out)?;
-    tell_seen(telling, parts.tally(), seen.state, err);
-    ask_behind(alloc, stop, seen.state, shelf)?;
+    let seen = parts.pass_on(piece, how.telling, out)?;
+    tell_seen(how.telling, parts.tally(), seen.state, err);
+    ask_behind(how.alloc, how.stop, seen.state, shelf)?;
     Ok(seen.used)
 }
 
 // Passes on the next bytes of a job, event by event.
 fn pass_events<K: Sink, E: Sink, L: Shelf>(
-    alloc: Global,
-    telling: Telling,
-    stop: Option<&str>,
+    how: Passing<'_>,
     parts: &mut Parts,
     piece: &[u8],
     out: &mut K,
@@ -73,7 +77,7 @@ fn pass_events<K: Sink, E: Sink, L: Shelf>(
     requires reading { IsReading parts.old }
     requires room { fed_parts parts.old + length piece.now < 2 ^ 63 }
     ensures ends { (sofar full : List ℕ) → Reads parts.old sofar → job_of full ≡ sofar ++ piece.now
-        → IsPieceEnd telling (option_map (λ name. name.now) stop.entry) (L.files shelf.old) parts.new
+        → IsPieceEnd how.entry.telling (option_map (λ name. name.now) how.entry.stop) (L.files shelf.old) parts.new
         (moment_of K.held K.faults E.held E.faults L.faults out.old err.old shelf.old)
         (moment_of K.held K.faults E.held E.faults L.faults out.new err.new shelf.new) sofar full result }
     ensures later { IsLater
@@ -83,16 +87,14 @@ fn pass_events<K: Sink, E: Sink, L: Shelf>(
 {
     let mut at = 0;
     'events: while at < piece.len() {
-        at += pass_event(alloc, telling, stop, parts, &piece[at..], out, err, shelf)?;
+        at += pass_event(how, parts, &piece[at..], out, err, shelf)?;
     }
     Ok(())
 }
 
 // Passes on a piece of a job after `fed` bytes, as far as the job may have them.
 fn pass_piece<K: Sink, E: Sink, L: Shelf>(
-    alloc: Global,
-    telling: Telling,
-    stop: Option<&str>,
+    how: Passing<'_>,
     parts: &mut Parts,
     piece: &[u8],
     fed: u64,
@@ -104,7 +106,7 @@ fn pass_piece<K: Sink, E: Sink, L: Shelf>(
     requires reading { (sofar : List ℕ) × Reads parts.old sofar × (length sofar ≡ fed) }
     ensures within { IsOk result → fed + length piece.now ≤ most_job }
     ensures ends { (sofar : List ℕ) → Reads parts.old sofar → length sofar ≡ fed
-        → IsPieceEnd telling (option_map (λ name. name.now) stop.entry) (L.files shelf.old) parts.new
+        → IsPieceEnd how.entry.telling (option_map (λ name. name.now) how.entry.stop) (L.files shelf.old) parts.new
         (moment_of K.held K.faults E.held E.faults L.faults out.old err.old shelf.old)
         (moment_of K.held K.faults E.held E.faults L.faults out.new err.new shelf.new)
         sofar (sofar ++ piece.now) result }
@@ -114,16 +116,7 @@ fn pass_piece<K: Sink, E: Sink, L: Shelf>(
     ensures stay { L.files shelf.new ≡ L.files shelf.old }
 {
     let room = MOST_JOB - fed;
-    pass_events(
-        alloc,
-        telling,
-        stop,
-        parts,
-        first_bytes(piece, room),
-        out,
-        err,
-        shelf,
-    )?;
+    pass_events(how, parts, first_bytes(piece, room), out, err, shelf)?;
     if room < piece.len() as u64 {
         return Err(Halt::Job {
             offset: MOST_JOB,
@@ -146,9 +139,7 @@ fn first_bytes(bytes: &[u8], count: u64) -> &[u8]
 
 /// Passes on the job in `input`, read by read, and tells its lines.
 pub fn pass_job<S: Source, K: Sink, E: Sink, L: Shelf>(
-    alloc: Global,
-    telling: Telling,
-    stop: Option<&str>,
+    how: Passing<'_>,
     parts: &mut Parts,
     unread: &mut Unread,
     input: &mut S,
@@ -158,7 +149,7 @@ pub fn pass_job<S: Source, K: Sink, E: Sink, L: Shelf>(
 ) -> Result<(), Halt>
     requires anew { Reads parts.old [] }
     requires empty { unread.old ≡ [] }
-    ensures passes { PassesJob telling (option_map (λ name. name.now) stop.entry) (L.files shelf.old) parts.new
+    ensures passes { PassesJob how.entry.telling (option_map (λ name. name.now) how.entry.stop) (L.files shelf.old) parts.new
         (outside_of S.left S.faults input.old input.new)
         (moment_of K.held K.faults E.held E.faults L.faults out.old err.old shelf.old)
         (moment_of K.held K.faults E.held E.faults L.faults out.new err.new shelf.new) result }
@@ -174,17 +165,7 @@ pub fn pass_job<S: Source, K: Sink, E: Sink, L: Shelf>(
             Ok(count) => count,
             Err(_failed) => return Err(Halt::Read),
         };
-        pass_piece(
-            alloc,
-            telling,
-            stop,
-            parts,
-            unread.bytes(),
-            fed,
-            out,
-            err,
-            shelf,
-        )?;
+        pass_piece(how, parts, unread.bytes(), fed, out, err, shelf)?;
         unread.use_up(count);
         fed += count as u64;
     }

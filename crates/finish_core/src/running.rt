@@ -10,7 +10,7 @@ ghost use Rattle.std.specs.Prelude.{IsErr, [], ◌≡◌, ◌≤◌};
 use crate::asking::ask;
 use crate::halts::{Halt, answer_of as answer_to, ends_page};
 use crate::parts::Parts;
-use crate::passing::pass_job;
+use crate::passing::{Passing, pass_job};
 use crate::telling::{tell_answer, tell_cut};
 use buffered_bytes::Unread;
 use driver_answer::Answer;
@@ -21,15 +21,13 @@ use weave_base::{Shelf, Sink, Source};
 
 // Passes on the job in `input`, ends its page, and tells its lines.
 fn finish<S: Source, K: Sink, E: Sink, L: Shelf>(
-    alloc: Global,
-    telling: Telling,
-    stop: Option<&str>,
+    how: Passing<'_>,
     input: &mut S,
     out: &mut K,
     err: &mut E,
     shelf: &mut L,
 ) -> Result<(), Halt>
-    ensures outcome { FinishOutcome telling (option_map (λ name. name.now) stop.entry) []
+    ensures outcome { FinishOutcome how.entry.telling (option_map (λ name. name.now) how.entry.stop) []
         (record {
           input = outside_of S.left S.faults input.old input.new;
           out = outside_of K.held K.faults out.old out.new;
@@ -38,25 +36,15 @@ fn finish<S: Source, K: Sink, E: Sink, L: Shelf>(
         }) (answer_of result) }
     ensures later { E.faults err.old ≤ E.faults err.new }
 {
-    let mut parts = Parts::make(alloc)?;
-    let mut unread = Unread::make(alloc)?;
-    ask(alloc, stop, shelf)?;
-    let passed = pass_job(
-        alloc,
-        telling,
-        stop,
-        &mut parts,
-        &mut unread,
-        input,
-        out,
-        err,
-        shelf,
-    );
+    let mut parts = Parts::make(how.alloc)?;
+    let mut unread = Unread::make(how.alloc)?;
+    ask(how.alloc, how.stop, shelf)?;
+    let passed = pass_job(how, &mut parts, &mut unread, input, out, err, shelf);
     if !ends_page(&passed) {
         return passed;
     }
     parts.end_page(out)?;
-    tell_cut(telling, parts.tally(), err);
+    tell_cut(how.telling, parts.tally(), err);
     passed
 }
 
@@ -86,8 +74,12 @@ fn work<S: Source, K: Sink, E: Sink, L: Shelf>(
                 pages: request.pages,
                 progress: request.progress,
             };
-            let stop = stop_name(words, &request);
-            answer_to(finish(alloc, telling, stop, input, out, err, shelf))
+            let how = Passing {
+                alloc,
+                telling,
+                stop: stop_name(words, &request),
+            };
+            answer_to(finish(how, input, out, err, shelf))
         }
     }
 }

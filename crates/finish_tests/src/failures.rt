@@ -20,7 +20,7 @@ fn a_read_that_fails_ends_the_page(rt: HostRuntime) -> Result<(), Fail> {
     Ok(())
 }
 
-// Asserts what is left of a job where the write behind so many bytes fails, whether the job is read by bytes or not.
+// Asserts what is left of a job if the write behind so many bytes fails, whether the job is read by bytes or not.
 fn try_write(
     rt: &impl Abort,
     alloc: Global,

@@ -1,4 +1,4 @@
-//! The calls that take memory, besides `run`: each succeeds where there is enough.
+//! The calls that take memory, besides `run`: each succeeds if there is enough.
 use crate::plain::{finished, prefix};
 use crate::runs::{AT_ONCE, BY_BYTES, Way, sink, source};
 use job_finisher::{FinishStop, JobCause, JobFinisher, JobStop, finish_job};

@@ -7,7 +7,7 @@ abbrev pub invariant-events : goal.invariant-events
 invariant-events g l = record {
   within : l.at ≤ length l.piece;
   reads : (sofar : List ℕ) → Reads l.fn.parts sofar → Reads l.parts (sofar ++ take l.at l.piece);
-  goes : (sofar : List ℕ) → Reads l.fn.parts sofar → GoesOn l.telling
+  goes : (sofar : List ℕ) → Reads l.fn.parts sofar → GoesOn l.how.telling
       (moment_of g.K.Sink.held g.K.Sink.faults g.E.Sink.held g.E.Sink.faults g.L.Shelf.faults l.fn.out l.fn.err l.fn.shelf)
       (moment_of g.K.Sink.held g.K.Sink.faults g.E.Sink.held g.E.Sink.faults g.L.Shelf.faults l.out l.err l.shelf)
       sofar (sofar ++ take l.at l.piece);

@@ -19,9 +19,9 @@ returns-in-Ok-eq0-clause-passes g c =
     let none = grows_none c.reads.unread c.more.new.self c.in-Ok-eq0.field-0 c.in-Ok-eq0.ensures.grown zero kept.unread in
     let a : Moment = moment_of g.K.Sink.held g.K.Sink.faults g.E.Sink.held g.E.Sink.faults g.L.Shelf.faults c.args.out.now c.args.err.now c.args.shelf.now in
     let b : Moment = moment_of g.K.Sink.held g.K.Sink.faults g.E.Sink.held g.E.Sink.faults g.L.Shelf.faults c.reads.out c.reads.err c.reads.shelf in
-    passes_end c.args.telling (option_map (λ (name : Bor (List ℕ)). name.now) c.args.stop) (g.L.Shelf.files c.args.shelf.now) c.reads.parts c.reads.fed
+    passes_end c.args.how.telling (option_map (λ (name : Bor (List ℕ)). name.now) c.args.how.stop) (g.L.Shelf.files c.args.shelf.now) c.reads.parts c.reads.fed
     (outside_of g.S.Source.left g.S.Source.faults c.args.input.now c.more.new.source) a b (Ok tt)
-    (passes_kept c.args.telling c.reads.parts c.reads.fed (g.S.Source.left c.args.input.now) (g.S.Source.left c.reads.input) (g.S.Source.left c.more.new.source)
+    (passes_kept c.args.how.telling c.reads.parts c.reads.fed (g.S.Source.left c.args.input.now) (g.S.Source.left c.reads.input) (g.S.Source.left c.more.new.source)
     a b kept.so_far (piece_taken _ _ c.reads.unread c.more.new.self [] (sym none) kept.unread c.more.ensures.text))
     (λ passes may. (passes, c.in-Ok-eq0.ensures.end zero, may))
 
@@ -31,9 +31,9 @@ returns-in-Err-clause-passes g c =
     let none = c.in-Err.ensures.same ∙ kept.unread in
     let a : Moment = moment_of g.K.Sink.held g.K.Sink.faults g.E.Sink.held g.E.Sink.faults g.L.Shelf.faults c.args.out.now c.args.err.now c.args.shelf.now in
     let b : Moment = moment_of g.K.Sink.held g.K.Sink.faults g.E.Sink.held g.E.Sink.faults g.L.Shelf.faults c.reads.out c.reads.err c.reads.shelf in
-    passes_end c.args.telling (option_map (λ (name : Bor (List ℕ)). name.now) c.args.stop) (g.L.Shelf.files c.args.shelf.now) c.reads.parts c.reads.fed
+    passes_end c.args.how.telling (option_map (λ (name : Bor (List ℕ)). name.now) c.args.how.stop) (g.L.Shelf.files c.args.shelf.now) c.reads.parts c.reads.fed
     (outside_of g.S.Source.left g.S.Source.faults c.args.input.now c.more.new.source) a b (Err halt.Read)
-    (passes_kept c.args.telling c.reads.parts c.reads.fed (g.S.Source.left c.args.input.now) (g.S.Source.left c.reads.input) (g.S.Source.left c.more.new.source)
+    (passes_kept c.args.how.telling c.reads.parts c.reads.fed (g.S.Source.left c.args.input.now) (g.S.Source.left c.reads.input) (g.S.Source.left c.more.new.source)
     a b kept.so_far (piece_taken _ _ c.reads.unread c.more.new.self [] (sym none) kept.unread c.more.ensures.text))
     (λ passes may. (
       passes,
@@ -50,17 +50,17 @@ returns-in_err-pass_piece-clause-passes g c =
     let kept = c.reads.invariant in
     let why = c.in_err-pass_piece.field-0.0 in
     let parts = c.pass_piece.new.parts in
-    let stop = option_map (λ (name : Bor (List ℕ)). name.now) c.args.stop in
+    let stop = option_map (λ (name : Bor (List ℕ)). name.now) c.args.how.stop in
     let files = g.L.Shelf.files c.args.shelf.now in
     let a : Moment = moment_of g.K.Sink.held g.K.Sink.faults g.E.Sink.held g.E.Sink.faults g.L.Shelf.faults c.args.out.now c.args.err.now c.args.shelf.now in
     let b : Moment = moment_of g.K.Sink.held g.K.Sink.faults g.E.Sink.held g.E.Sink.faults g.L.Shelf.faults c.reads.out c.reads.err c.reads.shelf in
     let d : Moment = moment_of g.K.Sink.held g.K.Sink.faults g.E.Sink.held g.E.Sink.faults g.L.Shelf.faults c.pass_piece.new.out c.pass_piece.new.err c.pass_piece.new.shelf in
     rw is
-    (passes_stop c.args.telling stop files c.reads.parts parts c.reads.fed
+    (passes_stop c.args.how.telling stop files c.reads.parts parts c.reads.fed
     (outside_of g.S.Source.left g.S.Source.faults c.args.input.now c.more.new.source) (g.S.Source.left c.reads.input) a b d c.bytes.result.now why kept.so_far
     (piece_taken _ _ c.reads.unread c.more.new.self c.bytes.result.now c.bytes.ensures.bytes kept.unread c.more.ensures.text)
     kept.later c.pass_piece.ensures.later
-    (halts_as c.args.telling stop (g.L.Shelf.files c.reads.shelf) files parts b d kept.so_far.bytes _ why kept.stay
+    (halts_as c.args.how.telling stop (g.L.Shelf.files c.reads.shelf) files parts b d kept.so_far.bytes _ why kept.stay
     (c.in_err-pass_piece.ensures.ends kept.so_far.bytes kept.so_far.reads kept.so_far.fed_is)))
 
 pub reads-preserved : goal.reads-preserved
@@ -72,7 +72,7 @@ reads-preserved g c =
     let b : Moment = moment_of g.K.Sink.held g.K.Sink.faults g.E.Sink.held g.E.Sink.faults g.L.Shelf.faults c.reads.out c.reads.err c.reads.shelf in
     let d : Moment = moment_of g.K.Sink.held g.K.Sink.faults g.E.Sink.held g.E.Sink.faults g.L.Shelf.faults c.pass_piece.new.out c.pass_piece.new.err c.pass_piece.new.shelf in
     record {
-      so_far = passes_more c.args.telling (option_map (λ (name : Bor (List ℕ)). name.now) c.args.stop) (g.L.Shelf.files c.reads.shelf) c.reads.parts
+      so_far = passes_more c.args.how.telling (option_map (λ (name : Bor (List ℕ)). name.now) c.args.how.stop) (g.L.Shelf.files c.reads.shelf) c.reads.parts
           c.pass_piece.new.parts c.reads.fed (c.reads.fed + c.in-Ok.count) (g.S.Source.left c.args.input.now) (g.S.Source.left c.reads.input)
           (g.S.Source.left c.more.new.source) a b d c.bytes.result.now so_far
           (piece_taken _ _ c.reads.unread c.more.new.self c.bytes.result.now c.bytes.ensures.bytes kept.unread c.more.ensures.text)

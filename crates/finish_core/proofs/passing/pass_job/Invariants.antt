@@ -6,7 +6,7 @@ use Rattle.finish_core.proofs.passing.pass_job.Given as goal
 
 abbrev pub invariant-reads : goal.invariant-reads
 invariant-reads g l = record {
-  so_far : PassesSoFar l.telling l.parts l.fed (g.S.Source.left l.fn.input) (g.S.Source.left l.input)
+  so_far : PassesSoFar l.how.telling l.parts l.fed (g.S.Source.left l.fn.input) (g.S.Source.left l.input)
       (moment_of g.K.Sink.held g.K.Sink.faults g.E.Sink.held g.E.Sink.faults g.L.Shelf.faults l.fn.out l.fn.err l.fn.shelf)
       (moment_of g.K.Sink.held g.K.Sink.faults g.E.Sink.held g.E.Sink.faults g.L.Shelf.faults l.out l.err l.shelf);
   unread : l.unread ≡ [];

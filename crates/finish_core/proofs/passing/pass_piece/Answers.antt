@@ -19,7 +19,7 @@ pub returns-then-room-piece-clause-ends : goal.returns-then-room-piece-clause-en
 returns-then-room-piece-clause-ends g c =
     let piece = c.args.piece.now in
     λ sofar reads len.
-    too_long c.args.telling (option_map (λ (name : Bor (List ℕ)). name.now) c.args.stop) (g.L.Shelf.files c.args.shelf.now) c.pass_events.new.parts
+    too_long c.args.how.telling (option_map (λ (name : Bor (List ℕ)). name.now) c.args.how.stop) (g.L.Shelf.files c.args.shelf.now) c.pass_events.new.parts
     (moment_of g.K.Sink.held g.K.Sink.faults g.E.Sink.held g.E.Sink.faults g.L.Shelf.faults c.args.out.now c.args.err.now c.args.shelf.now)
     (moment_of g.K.Sink.held g.K.Sink.faults g.E.Sink.held g.E.Sink.faults g.L.Shelf.faults c.pass_events.new.out c.pass_events.new.err c.pass_events.new.shelf)
     c.args.fed sofar piece c.first_bytes.result.now len c.requires.within c.first_bytes.ensures (omega arith)
