@@ -6,6 +6,7 @@
 PROGRAM is the driver, as crates/driver_program/out/driver_program: its --help lists the causes by status, and its
 --help CAUSE says what each means. A section for them begins with the comment .\\" causes: KIND, perhaps with names of
 causes behind it, and ends with .\\" end of causes. KIND is the word with which error lines begin, as usage or input.
+The spool and the finisher tell the same meanings, and their pages name the causes.
 
 With --check nothing is written, and the status is 1 if a file would change.
 """

@@ -4,9 +4,12 @@ import subprocess
 from functools import cache
 from pathlib import Path
 
+PROGRAMS = ["jinthbao", "jinthbao-spool", "jinthbao-finish"]
 MAN = "packaging/man/"
 BASH, ZSH, USING = "packaging/completion/jinthbao.bash", "packaging/completion/_jinthbao", "docs/USING.md"
 DESCRIBE, PROOF = "queue/describe.py", "docs/PROOF.md"
+# Which document has the table of a program's statuses
+TABLES = {"jinthbao": PROOF, "jinthbao-spool": USING}
 # Where the values of a word are listed: all that stands in the group, apart from these words and what is in brackets
 FILLERS = {"Cm", "None", "and", "or"}
 VALUES = [
@@ -26,12 +29,14 @@ VALUES = [
 
 
 def differences(programs, text):
-    """For the helps of the driver and the spool, and a function from a file's name to its text."""
+    """For the first of PROGRAMS, as many as are given, and a function from a file's name to its text."""
     helps = [ask(program) for program in programs]
-    found = [finding for name, told in zip(["jinthbao", "jinthbao-spool"], helps)
-             for check in (words, statuses) for finding in check(name, told, text)]
+    found = [finding for name, told in zip(PROGRAMS, helps)
+             for check in (words, statuses, named_causes) for finding in check(name, told, text)]
     for told in helps[:1]:
         found += [*values(told, text), *defaults(told, text), *limits(told, text), *causes(programs[0])]
+    for told in helps[2:]:
+        found += cut_jobs(helps[0], told, text)
     return found
 
 
@@ -87,27 +92,55 @@ def words(name, told, text):
             row = re.search(rf"^\| `{command} (.*?)\|", text("README.md"), re.MULTILINE)
             if not row or set(re.findall(r"(\w+)=", row[1])) != set(keys):
                 yield f"README.md:1: the words of {command} differ from --help"
-        what, zsh = f"the words of {command}", re.sub(r"\$keys\[(\w+)\]", r"\1", text(ZSH))
+        what, zsh = f"the words of {command}", re.sub(r"\$keys\[(\w+)\]|'(\w+)\[[^']*'", r"\1\2", text(ZSH))
         yield from differ(BASH, text(BASH), rf" {command}\) printf '%s\\n' ([a-z ]*) ;;$", keys, what)
-        place = rf"^    {command} '([a-z ]*)'$" if name == "jinthbao" else r"-w word ([a-z ]*)$"
+        place = (rf"^    {command} '([a-z ]*)'$" if name == "jinthbao" else
+                 rf"== {name} \]\]; then\n +_values -w word ((?:[a-z ]|\\\n)*)$")
         yield from differ(ZSH, zsh, place, keys, what)
 
 
-def statuses(name, told, text):
+def status_lines(told):
+    """The error line of each status."""
     table = told.partition("exit status")[2].partition("\n\n")[0]
-    lines = dict(re.findall(r"^(\d)  (.+?)(?:  .*)?$", table, re.MULTILINE))
+    return dict(re.findall(r"^(\d)  (.+?)(?:  .*)?$", table, re.MULTILINE))
+
+
+def statuses(name, told, text):
+    lines = status_lines(told)
     page = f"{MAN}{name}.1"
     said = {number: line or none for number, line, none in
             re.findall(r'^\.It (\d) Ta (?:Li "(.*?)"|(none)) Ta', text(page), re.MULTILINE)}
     if said != lines:
         yield f"{page}:1: the statuses differ from --help: {sorted(set(said.items()) ^ set(lines.items()))}"
-    file = USING if "spool" in name else PROOF
+    if not (file := TABLES.get(name)):
+        return
     rows = re.findall(r"^\| (\d) \| (?:[^|]* \|)*? ?(?:`([^`|]*)`(?:; none [^|]*)?|(none)) \|",
                       text(file).partition("\n| Status |")[2].partition("\n\n")[0], re.MULTILINE)
     if (said := {number: line or none for number, line, none in rows}) != lines:
         yield f"{file}:1: the statuses differ from --help: {sorted(set(said.items()) ^ set(lines.items()))}"
     if name == "jinthbao" and (heads := re.findall(r"^### (\d): ", text(USING), re.MULTILINE)) != sorted(lines):
         yield f"{USING}:1: the headings of statuses differ from --help: {' '.join(heads)}"
+
+
+def named_causes(name, told, text):
+    """The causes of the spool or the finisher: its manual page names those that --help lists, and no other."""
+    if name == "jinthbao":
+        return
+    page, cause = f"{MAN}{name}.1", r"[A-Z][a-z]\w+"
+    listed = set(re.findall(cause, told.partition("says what a cause means")[2]))
+    said = set(re.findall(cause, " ".join(re.findall(r"(?m)^\.(?:It )?Li (.*)$", text(page)))))
+    if said != listed:
+        yield f"{page}:1: the causes differ from --help: {' '.join(sorted(said ^ listed))}"
+
+
+def cut_jobs(driver, finisher, text):
+    """What USING.md says of the finisher, by its help: the words, and that the statuses are those of the driver."""
+    part = text(USING).partition("\n## A job that is cut\n")[2].partition("\n## ")[0]
+    keys = {key for _, listed in usage("jinthbao-finish", finisher) for key in listed}
+    if (said := set(re.findall(r"\b(\w+)=", part))) != keys:
+        yield f"{USING}:1: the words of finish differ from --help: {' '.join(sorted(said ^ keys))}"
+    if other := status_lines(finisher).items() - status_lines(driver).items():
+        yield f"{USING}:1: statuses of finish are not those of the driver: {sorted(other)}"
 
 
 def wanted_values(told, key):

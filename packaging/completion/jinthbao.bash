@@ -1,4 +1,5 @@
-# Completion of jinthbao, jinthbao-spool and jinthbao-view in bash, for /usr/share/bash-completion/completions
+# Completion of jinthbao, jinthbao-spool, jinthbao-finish and jinthbao-view in bash, for
+# /usr/share/bash-completion/completions
 
 _jinthbao_profiles() {
     printf '%s\n' tiny1 tiny p360k p360cmyk p720cmyk
@@ -6,15 +7,17 @@ _jinthbao_profiles() {
     grep -l --binary-files=text -m1 -E '^escp2-profile [12]' -- * 2>/dev/null
 }
 
-# _jinthbao_value KEY: the values of a key that are worth a list
+# _jinthbao_value COMMAND KEY: the values of a command's key that are worth a list
 _jinthbao_value() {
-    case $1 in
+    case $2 in
     profile) _jinthbao_profiles ;;
     kernel) printf '%s\n' fs jjn stucki ;;
     kind) printf '%s\n' gray black rgb black1 cmyk ;;
     grain) printf '%s\n' 0 8 16 32 ;;
     workers) printf '%s\n' 1 2 4 8 ;;
-    shingle) printf '%s\n' 0 1 ;;
+    shingle | progress) printf '%s\n' 0 1 ;;
+    pages) [[ $1 != finish ]] || printf '%s\n' 0 1 ;;
+    stop) compgen -f ;;
     esac
 }
 
@@ -27,16 +30,22 @@ _jinthbao_keys() {
     profile) printf '%s\n' profile ;;
     trial) printf '%s\n' profile kernel grain workers seed pages width height kind shingle dead ;;
     spool) printf '%s\n' profile kernel grain workers send ;;
+    finish) printf '%s\n' pages progress stop ;;
     esac
 }
 
 # _jinthbao_words COMMAND: the keys that no word has yet, each with its =, or the values of the word's key
 _jinthbao_words() {
     # bash splits a word at =, so the line is looked at up to the cursor
-    local line=${COMP_LINE:0:COMP_POINT} key word
+    local line=${COMP_LINE:0:COMP_POINT} key value word
     word=${line##*[[:blank:]]}
     if [[ $word == *=* ]]; then
-        mapfile -t COMPREPLY < <(compgen -W "$(_jinthbao_value "${word%%=*}")" -- "${word#*=}")
+        key=${word%%=*}
+        # a file's name may have blanks, and what the shell would run
+        [[ $key != @(profile|stop) ]] || compopt -o filenames
+        while IFS= read -r value; do
+            [[ $value != "${word#*=}"* ]] || COMPREPLY+=("$value")
+        done < <(_jinthbao_value "$1" "$key")
         return
     fi
     compopt -o nospace
@@ -48,9 +57,12 @@ _jinthbao_words() {
     done
 }
 
-# _jinthbao_causes PROGRAM: the causes that its help lists at its end
-_jinthbao_causes() {
-    "$1" --help 2>/dev/null | sed '1,/--help CAUSE/d' | grep -oE '[A-Z][A-Za-z]+' | sort -u
+# _jinthbao_cause PROGRAM: the word behind --help, a cause that the program's help lists at its end
+_jinthbao_cause() {
+    local causes
+    ((COMP_CWORD == 2)) || return
+    causes=$("$1" --help 2>/dev/null | sed '1,/--help CAUSE/d' | grep -oE '[A-Z][A-Za-z]+' | sort -u)
+    COMPREPLY=($(compgen -W "$causes" -- "${COMP_WORDS[2]}"))
 }
 
 _jinthbao() {
@@ -58,16 +70,21 @@ _jinthbao() {
     if ((COMP_CWORD == 1)); then
         COMPREPLY=($(compgen -W "print dots list profile trial --help --version" -- "${COMP_WORDS[1]}"))
     elif [[ ${COMP_WORDS[1]} == --help ]]; then
-        ((COMP_CWORD > 2)) || COMPREPLY=($(compgen -W "$(_jinthbao_causes "$1")" -- "${COMP_WORDS[2]}"))
+        _jinthbao_cause "$1"
     else
         _jinthbao_words "${COMP_WORDS[1]}"
     fi
 }
 
-_jinthbao_spool() {
+# a program without commands, the spool or the finisher, whose keys go by the end of its name
+_jinthbao_program() {
     COMPREPLY=()
-    _jinthbao_words spool
-    ((COMP_CWORD > 1)) || COMPREPLY+=($(compgen -W "--help --version" -- "${COMP_WORDS[1]}"))
+    if ((COMP_CWORD > 1)) && [[ ${COMP_WORDS[1]} == --help ]]; then
+        _jinthbao_cause "$1"
+    else
+        _jinthbao_words "${1##*-}"
+        ((COMP_CWORD > 1)) || COMPREPLY+=($(compgen -W "--help --version" -- "${COMP_WORDS[1]}"))
+    fi
 }
 
 _jinthbao_view() {
@@ -89,5 +106,5 @@ _jinthbao_view() {
 }
 
 complete -F _jinthbao jinthbao
-complete -F _jinthbao_spool jinthbao-spool
+complete -F _jinthbao_program jinthbao-spool jinthbao-finish
 complete -F _jinthbao_view jinthbao-view
