@@ -9,6 +9,7 @@ from make_page import header
 
 TOP = Path(__file__).resolve().parent.parent
 PROGRAM = TOP / "crates/driver_program/out/driver_program"
+FINISHER = TOP / "crates/finish_program/out/finish_program"
 SAMPLE = (TOP / "pages/sample.pwg").read_bytes()
 
 
@@ -32,11 +33,11 @@ class Results:
         sys.exit(1 if self.failed else 0)
 
 
-def program_of(words):
+def program_of(words, built=PROGRAM):
     """The program that the command line of a script names, or the one that was built in this tree."""
-    program = Path(words[0]).resolve() if words else PROGRAM
+    program = Path(words[0]).resolve() if words else built
     if not program.exists():
-        sys.exit(f"There is no {program} yet. Build it by: cd crates/driver_program && rt run -- --version")
+        sys.exit(f"There is no {program} yet. Build it by: cd crates/{built.name} && rt run -- --version")
     return program
 
 
