@@ -1,5 +1,6 @@
 pub mod Writing
 pub mod Steps
+pub mod WholePackets
 pub mod Feeding
 pub mod Ends
 pub mod Passing

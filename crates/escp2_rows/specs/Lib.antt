@@ -4,3 +4,4 @@ pub mod Ends
 pub mod Literals
 pub mod Passing
 pub mod Examples
+pub mod Packets

@@ -7,7 +7,8 @@
 //! returns `More` if the whole piece was used and the rows are not yet whole; `Whole` if the rows end with the last
 //! byte that was used, whatever follows; and `Fault` if the last byte that was used is a control byte of 128, or one
 //! whose count passes the end of its row, whatever follows. After `Whole` or `Fault` the reader is done and must not be
-//! fed.
+//! fed. If the piece has all bytes of a packet and 16 more, the packet is read in a loop that puts blocks of 16 bytes
+//! into the vector, past the end of what the packet gives, but not past the room of the vector.
 //!
 //! `cost_table` computes the costs of a row of at most `MOST_ROW_BYTES` bytes. `code_row` writes exactly the least code
 //! of such a row, into a slice of at least twice the row's length. No call allocates memory.
@@ -18,6 +19,7 @@ mod costs;
 mod examples;
 mod literals;
 mod reader;
+mod whole_packets;
 mod writer;
 
 pub use costs::{CostTable, cost_table};

@@ -6,6 +6,11 @@ ghost use Rattle.std.specs.Prelude.{[], false, length, min, replicate, take, vec
 ghost use Rattle.std.specs.Prelude.{◌<◌, ◌∷◌, ◌≡◌, ◌≤◌};
 
 use crate::buffer::{push_bytes, push_run};
+use crate::whole_packets::{BLOCK, read_whole};
+
+// About how many bytes of output are filled with zeros at a time, before packets are put over them. A packet of two
+// bytes gives 128 at most, so 64 bytes of output for each byte of the piece are enough.
+const MOST_PORTION: usize = 1920;
 
 /// What a call of `RowReader::feed` found.
 #[derive(Clone, Copy, Debug, PartialEq, Eq)]
@@ -159,12 +164,63 @@ impl RowReader {
         ensures capacity { vec_capacity out.old ≤ vec_capacity out.new }
     {
         match self.place {
-            Place::Packet => self.feed_control(bytes[0]),
+            Place::Packet => return self.feed_front(bytes, out),
             Place::Literal(wanted) => return self.feed_literal(wanted, bytes, out),
             Place::Repeated(count) => self.feed_repeated(count, bytes[0], out),
             Place::Failed => {}
         }
         1
+    }
+
+    // Reads whole packets, or else a control byte, and gives the number of bytes.
+    fn feed_front(&mut self, bytes: &[u8], out: &mut Vec<u8>) -> usize
+        requires place { self.old.place ≡ Place.Packet }
+        requires left { 0 < self.old.row_left }
+        requires some { 0 < length bytes.now }
+        requires room { vec_len out.old + bytes_left_of self.old ≤ vec_capacity out.old }
+        ensures least { 0 < result }
+        ensures most { result ≤ length bytes.now }
+        ensures takes { Takes self.old self.new (take result bytes.now) out.old.items out.new.items }
+        ensures room { vec_len out.new + bytes_left_of self.new ≤ vec_capacity out.new }
+        ensures capacity { vec_capacity out.old ≤ vec_capacity out.new }
+    {
+        let used = self.feed_packets(bytes, out);
+        if used > 0 {
+            return used;
+        }
+        self.feed_control(bytes[0]);
+        1
+    }
+
+    // Reads whole packets, as many as give what one portion of the output holds, and gives the number of bytes.
+    fn feed_packets(&mut self, bytes: &[u8], out: &mut Vec<u8>) -> usize
+        requires place { self.old.place ≡ Place.Packet }
+        requires room { vec_len out.old + bytes_left_of self.old ≤ vec_capacity out.old }
+        ensures place { self.new.place ≡ Place.Packet }
+        ensures none { result ≡ 0 → self.new.row_left ≡ self.old.row_left }
+        ensures most { result ≤ length bytes.now }
+        ensures takes { Takes self.old self.new (take result bytes.now) out.old.items out.new.items }
+        ensures room { vec_len out.new + bytes_left_of self.new ≤ vec_capacity out.new }
+        ensures capacity { vec_capacity out.old ≤ vec_capacity out.new }
+    {
+        let filled = out.len();
+        let more = portion(self.bytes_left(), bytes.len()).min(out.capacity() - filled);
+        if bytes.len() <= BLOCK || more < 2 * BLOCK {
+            return 0;
+        }
+        out.resize(filled + more, 0).unwrap();
+        let at = read_whole(
+            out,
+            filled,
+            self.row_left,
+            self.rows_left,
+            self.row_bytes,
+            bytes,
+        );
+        out.truncate(at.filled);
+        self.row_left = at.row_left;
+        self.rows_left = at.rows_left;
+        at.used
     }
 
     // Reads a control byte.
@@ -223,6 +279,14 @@ impl RowReader {
         self.rows_left -= 1;
         self.row_left = self.row_bytes;
     }
+}
+
+// How many bytes of output whole packets are to have, if this many bytes of the rows are left, and the piece has this
+// many bytes: what is left with the blocks past its end, but no more than the piece can give, nor than `MOST_PORTION`.
+fn portion(left: usize, len: usize) -> usize
+    ensures { result ≤ MOST_PORTION }
+{
+    (left.min(MOST_PORTION) + 2 * BLOCK).min(len.min(MOST_PORTION / 64) * 64)
 }
 
 // Where a reader stands after a control byte, where the row has `left` bytes left.

@@ -1,3 +1,5 @@
+pub mod Counts
+pub mod WordCounts
 pub mod RowBits
 pub mod RasterDots
 pub mod Numbering

@@ -12,6 +12,7 @@
 //! call allocates memory.
 #![tactic(auto)]
 
+mod counting;
 mod dots;
 mod line;
 mod lister;
