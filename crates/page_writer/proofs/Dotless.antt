@@ -3,8 +3,8 @@ use Rattle.std.proofs.Common.{◌≡◌, ℕ, zero, suc, ◌+◌, ◌-◌, ◌*�
 use Rattle.std.proofs.Common.{length, take, drop, replicate, get_or, refl, sym, ◌∙◌, ap, arith, length-drop}
 use Rattle.std.specs.List.{list_all, list_any}
 use Rattle.std.proofs.lemmas.Bool.Decides.{nat_tests}
-use Rattle.std.proofs.lemmas.List.{drop-drop, drop-replicate, length-replicate}
-use Rattle.std.proofs.lemmas.List.Folds.{list_all_more}
+use Rattle.std.proofs.lemmas.List.{drop-drop, drop-replicate, length-replicate, take-append-drop}
+use Rattle.std.proofs.lemmas.List.Folds.{list_all-append, list_all_more}
 use Rattle.base_definitions.specs.Packed.{at, packed, packed_byte, packed_bytes, worth}
 use Rattle.page_laws.proofs.Passes.{no-dot}
 
@@ -21,6 +21,34 @@ pub blank_more : (row : List ℕ) (most i : ℕ) → i < length row → (most ==
     → (max most (get_or row i 0) == 0) ≡ list_all (λ byte. byte == 0) (take (i + 1) row)
 blank_more row most i low so_far =
     max-zero most (get_or row i 0) ∙ ap (λ b. b && (get_or row i 0 == 0)) so_far ∙ sym (list_all_more (λ byte. byte == 0) row i 0 low)
+
+-- ---- block by block
+
+-- bytes are blank where the first ones and those behind are
+blank-split : (n : ℕ) (bytes : List ℕ) → list_all (λ byte. byte == 0) bytes
+    ≡ (list_all (λ byte. byte == 0) (take n bytes) && list_all (λ byte. byte == 0) (drop n bytes))
+blank-split n bytes =
+    ap (list_all (λ byte. byte == 0)) (sym (take-append-drop n bytes))
+    ∙ list_all-append (λ byte. byte == 0) (take n bytes) (drop n bytes)
+
+-- a row is as blank as the bytes behind a block, where the block is blank
+pub blank_behind : (n : ℕ) (rest : List ℕ) {all blank : Bool} {block behind : List ℕ}
+    → all ≡ list_all (λ byte. byte == 0) rest → block ≡ take n rest → behind ≡ drop n rest
+    → blank ≡ list_all (λ byte. byte == 0) block → blank ≡ true → all ≡ list_all (λ byte. byte == 0) behind
+blank_behind n rest so_far first behind_is blank_is same =
+    so_far ∙ blank-split n rest
+    ∙ ap (λ bs. list_all (λ byte. byte == 0) bs && list_all (λ byte. byte == 0) (drop n rest)) (sym first)
+    ∙ ap (λ b. b && list_all (λ byte. byte == 0) (drop n rest)) (sym blank_is ∙ same)
+    ∙ ap (list_all (λ byte. byte == 0)) (sym behind_is)
+
+-- and it is not blank where the block is not
+pub not_blank : (n : ℕ) (rest : List ℕ) {all blank : Bool} {block : List ℕ}
+    → all ≡ list_all (λ byte. byte == 0) rest → block ≡ take n rest
+    → blank ≡ list_all (λ byte. byte == 0) block → blank ≡ false → false ≡ all
+not_blank n rest so_far first blank_is same =
+    sym (so_far ∙ blank-split n rest
+    ∙ ap (λ bs. list_all (λ byte. byte == 0) bs && list_all (λ byte. byte == 0) (drop n rest)) (sym first)
+    ∙ ap (λ b. b && list_all (λ byte. byte == 0) (drop n rest)) (sym blank_is ∙ same))
 
 -- ---- a blank row
 

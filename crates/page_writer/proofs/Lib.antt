@@ -8,4 +8,5 @@ pub mod WayHeads
 pub mod AtMost
 pub mod Written
 pub mod EveryOther
+pub mod Outlets
 pub mod Pieces

@@ -2,8 +2,6 @@
 use Rattle.std.proofs.Common.{◌≡◌, ℕ, zero, suc, ◌+◌, ◌-◌, ◌*◌, ◌<◌, ◌≤◌, Bool, true, false, cond, if◌then◌else◌}
 use Rattle.std.proofs.Common.{List, [], ◌∷◌, ◌++◌, length, map, filter, Option, refl, sym, ◌∙◌, ap, subst, arith}
 use Rattle.std.proofs.Common.{append_assoc, append-nil, length-append, length-set, drop, take, vec_len, nat_eq, slice_index_or, slice_set, ◌^◌}
-use Rattle.std.specs.Io.KnownBytes.{Appends}
-use Rattle.std.proofs.KnownBytes.{Appends-trans}
 use Rattle.std.proofs.lemmas.Bool.{eqb-false, eqb-true, lt-ltb}
 use Rattle.std.proofs.lemmas.List.{get_or-set_other, get_or-set_same, length-drop, map-append, take_all}
 use Rattle.std.proofs.Math.Seq.{drop-append_seam}
@@ -13,15 +11,15 @@ use Rattle.page_definitions.specs.PageBytes.{page_coding}
 use Rattle.page_definitions.specs.Strokes.{Spoken, Stroke, bytes_of, down_by, fires, inks_commands, strokes_commands}
 use Rattle.page_laws.proofs.Printed.{bytes-append}
 use Rattle.printer_definitions.specs.Printer.{Printer, row_units}
-use Rattle.weave_base.specs.Parts.{AppendsPart}
-use Rattle.weave_base.proofs.Parting.{part_behind, part_of_front}
 use Rattle.page_writer.specs.Heads.{HeadPage, IsPage, stroke_over}
+use Rattle.page_writer.specs.Outlets.{Gathers, GathersPart, Outlet}
 use Rattle.page_writer.specs.Pieces.{AllRoomy, AreCoded, CodesPiece, Each, IsAssigned, IsCoded, IsFilled, IsReady, SendsStrokes, bound_of, left_at, sent_both, sent_bytes, sent_commands, strokes_in}
 use Rattle.page_writer.specs.Sums.{most_of_pass, rasters_in}
 use Rattle.page_writer.specs.declared.coded.Coded.{Coded}
 use Rattle.page_writer.specs.declared.coded.Piece.{Piece}
 use Rattle.page_writer.specs.declared.coded.Run.{Run}
 use Rattle.page_writer.specs.declared.coded.Sent.{Sent}
+use Rattle.page_writer.proofs.Outlets.{fails_before, fails_behind, gathers_both}
 use Rattle.page_writer.proofs.Inks.{pass_short, rasters-append, strokes_fit}
 
 -- ---- facts of each of a list
@@ -128,18 +126,18 @@ bytes-join page last at m n there is =
 -- ---- what is sent
 
 -- one part after another
-sends_both : {page : HeadPage} {last at m n : ℕ} {a b d : Option (List ℕ)} {one two : Sent}
+sends_both : {page : HeadPage} {last at m n : ℕ} {a b d : Outlet} {one two : Sent}
     → SendsStrokes page last at m a b one → SendsStrokes page one.last (at + m) n b d two
     → SendsStrokes page last at (m + n) a d (sent_both one two)
 sends_both {page} {last} {at} {m} {n} {a} {b} {d} {one} {two} first second =
     let whole : sent_bytes page last at (m + n) ≡ sent_bytes page last at m ++ sent_bytes page one.last (at + m) n =
     bytes-join page last at m n one.last first.left in
-    let P : List ℕ → Type 0 = Appends a d in
+    let P : List ℕ → Type 0 = Gathers a d in
     let most : ℕ = most_of_pass page.p page.t.width in
     let split : (m + n) * most ≡ m * most + n * most = omega arith in
     record {
-      appends = subst P (sym whole)
-          (Appends-trans a b d (sent_bytes page last at m) (sent_bytes page one.last (at + m) n) first.appends second.appends);
+      gathers = subst P (sym whole)
+          (gathers_both (sent_bytes page last at m) (sent_bytes page one.last (at + m) n) first.gathers second.gathers);
       bytes_are = omega (
         arith,
         first.bytes_are,
@@ -161,7 +159,7 @@ sends_both {page} {last} {at} {m} {n} {a} {b} {d} {one} {two} first second =
     }
 
 -- the same where the second part begins at this stroke, and this is how many strokes both have
-pub sends_join : {page : HeadPage} {last at m next n both : ℕ} {a b d : Option (List ℕ)} {one two : Sent}
+pub sends_join : {page : HeadPage} {last at m next n both : ℕ} {a b d : Outlet} {one two : Sent}
     → next ≡ at + m → both ≡ m + n → SendsStrokes page last at m a b one → SendsStrokes page one.last next n b d two
     → SendsStrokes page last at both a d (sent_both one two)
 sends_join {page} {last} {at} {m} {next} {n} {both} {a} {b} {d} {one} {two} there all first second =
@@ -170,10 +168,10 @@ sends_join {page} {last} {at} {m} {next} {n} {both} {a} {b} {d} {one} {two} ther
     subst Q (sym all) (sends_both first (subst P there second))
 
 -- the first part was sent whole, and the second was not: of both and any strokes after them
-pub part_join : {page : HeadPage} {last at m : ℕ} {a b d : Option (List ℕ)} {one : Sent} (next n whole : ℕ)
-    → next ≡ at + m → m + n ≤ whole → SendsStrokes page last at m a b one → AppendsPart b d (sent_bytes page one.last next n)
-    → AppendsPart a d (sent_bytes page last at whole)
-part_join {page} {last} {at} {m} {a} {b} {d} {one} next n whole there within first part =
+pub part_join : {page : HeadPage} {last at m : ℕ} {a b : Outlet} {held : Option (List ℕ)} {one : Sent} (next n whole : ℕ)
+    → next ≡ at + m → m + n ≤ whole → SendsStrokes page last at m a b one → GathersPart b held (sent_bytes page one.last next n)
+    → GathersPart a held (sent_bytes page last at whole)
+part_join {page} {last} {at} {m} {a} {b} {held} {one} next n whole there within first part =
     let rest : ℕ = whole - (m + n) in
     let behind : List ℕ = sent_bytes page (left_at page.p one.last (strokes_in page (at + m) n)) (at + m + n) rest in
     let all : whole ≡ m + (n + rest) = omega arith in
@@ -182,9 +180,9 @@ part_join {page} {last} {at} {m} {a} {b} {d} {one} next n whole there within fir
     ∙ bytes-join page last at m (n + rest) one.last first.left
     ∙ ap (λ bs. sent_bytes page last at m ++ bs) (bytes-join page one.last (at + m) n rest _ refl)
     ∙ ap (λ k. sent_bytes page last at m ++ (sent_bytes page one.last k n ++ behind)) (sym there) in
-    let P : List ℕ → Type 0 = AppendsPart a d in
-    subst P (sym is) (part_behind a b d (sent_bytes page last at m) (sent_bytes page one.last next n ++ behind)
-    first.appends (part_of_front b d (sent_bytes page one.last next n) behind part))
+    let P : List ℕ → Type 0 = GathersPart a held in
+    subst P (sym is) (fails_behind (sent_bytes page last at m) (sent_bytes page one.last next n ++ behind) first.gathers
+    (fails_before b (sent_bytes page one.last next n) behind part))
 
 -- ---- the bounds of a batch's pieces
 
@@ -229,7 +227,7 @@ filled_of {page} {own} {own'} {run} {k} {before} {after} has same codes =
     }
 
 -- the bytes of some of the strokes fit a number
-pub sent_fits : {page : HeadPage} {last at m there begin n : ℕ} {a b d e : Option (List ℕ)} {one two : Sent}
+pub sent_fits : {page : HeadPage} {last at m there begin n : ℕ} {a b d e : Outlet} {one two : Sent}
     → IsPage page → SendsStrokes page last at m a b one → SendsStrokes page there begin n d e two
     → m + n ≤ page.head.count → one.bytes + two.bytes < 2 ^ 52
 sent_fits {page} {last} {at} {m} {there} {begin} {n} {a} {b} {d} {e} {one} {two} is first_sent then_sent within =
@@ -293,12 +291,11 @@ one-rasters page last at = by_fire (fires page.p this)
     by_fire false = refl
 
 -- What is written of a coded stroke with a dot, from its step on: what the stroke sends.
-pub coded-bytes : {page : HeadPage} {stroke : ℕ} {coded : Coded} (last row begin : ℕ) (cleared step code : List ℕ)
-    → IsCoded page stroke coded → (coded.rasters ≡ 0 → ⊥) → row ≡ page.head.start stroke
-    → cleared ≡ [] → step ≡ cleared ++ bytes_of page_coding.code (down_by ((row - last) * row_units page.p))
-    → drop begin code ≡ step ++ drop 7 coded.code.items
+pub coded-bytes : {page : HeadPage} {stroke : ℕ} {coded : Coded} (last row begin : ℕ) (roomy code : List ℕ)
+    → IsCoded page stroke coded → (coded.rasters ≡ 0 → ⊥) → row ≡ page.head.start stroke → roomy ≡ coded.code.items
+    → drop begin code ≡ bytes_of page_coding.code (down_by ((row - last) * row_units page.p)) ++ drop 7 roomy
     → take (length code - begin) (drop begin code) ≡ sent_bytes page last stroke 1
-coded-bytes {page} {stroke} {coded} last row begin cleared step code is some there clear stepped written =
+coded-bytes {page} {stroke} {coded} last row begin roomy code is some there same written =
     let this : Stroke = stroke_over page.p page.head page.t stroke in
     let text : List ℕ = bytes_of page_coding.code (inks_commands page.p page.t.width page_coding.c this) in
     let down : ℕ → List ℕ = λ n. bytes_of page_coding.code (down_by ((n - last) * row_units page.p)) in
@@ -308,27 +305,28 @@ coded-bytes {page} {stroke} {coded} last row begin cleared step code is some the
     ap (drop (length is.front)) is.inks.items ∙ drop-append_seam is.front text in
     take_all (length code - begin) (drop begin code) (omega (arith, length-drop begin code))
     ∙ written
-    ∙ ap (λ bs. bs ++ drop 7 coded.code.items) (stepped ∙ ap (λ bs. bs ++ down row) clear ∙ ap down there)
+    ∙ ap (λ bs. down row ++ drop 7 bs) same
+    ∙ ap (λ bs. bs ++ drop 7 coded.code.items) (ap down there)
     ∙ ap (λ bs. down (page.head.start stroke) ++ bs) (subst P is.step inked)
     ∙ sym (one-bytes page last stroke ∙ ap (λ b. if b then down (page.head.start stroke) ++ text else []) fire)
 
 -- such a stroke is sent
-pub sends_coded : {page : HeadPage} {stroke : ℕ} {coded : Coded} (last row begin : ℕ) {a b : Option (List ℕ)} (code : List ℕ)
+pub sends_coded : {page : HeadPage} {stroke : ℕ} {coded : Coded} (last row begin : ℕ) {a b : Outlet} (code : List ℕ)
     → IsCoded page stroke coded → (coded.rasters ≡ 0 → ⊥) → row ≡ page.head.start stroke
     → length code ≡ vec_len coded.code
     → take (length code - begin) (drop begin code) ≡ sent_bytes page last stroke 1
-    → Appends a b (take (length code - begin) (drop begin code))
+    → Gathers a b (take (length code - begin) (drop begin code))
     → SendsStrokes page last stroke 1 a b (record { bytes = length code - begin; rasters = coded.rasters; last = row })
-sends_coded {page} {stroke} {coded} last row begin {a} {b} code is some there long whole appended =
+sends_coded {page} {stroke} {coded} last row begin {a} {b} code is some there long whole sent =
     let this : Stroke = stroke_over page.p page.head page.t stroke in
     let fire : fires page.p this ≡ true = sym is.inks.fire ∙ lt-ltb 0 coded.rasters (omega (arith, some)) in
-    let P : List ℕ → Type 0 = Appends a b in
+    let P : List ℕ → Type 0 = Gathers a b in
     let most : ℕ = most_of_pass page.p page.t.width in
     let once : 1 * most ≡ most = omega arith in
     let all : take (length code - begin) (drop begin code) ≡ drop begin code =
     take_all (length code - begin) (drop begin code) (omega (arith, length-drop begin code)) in
     record {
-      appends = subst P whole appended;
+      gathers = subst P whole sent;
       bytes_are = sym (length-drop begin code) ∙ ap length (sym all ∙ whole);
       rasters_are = is.inks.rasters_are
           ∙ sym (one-rasters page last stroke

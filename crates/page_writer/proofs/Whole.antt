@@ -2,20 +2,20 @@
 use Rattle.std.proofs.Common.{◌≡◌, ℕ, ◌+◌, ◌-◌, ◌*◌, List, [], ◌∷◌, ◌++◌, length, Option}
 use Rattle.std.proofs.Common.{sym, ◌∙◌, ap, subst, arith, length-append}
 use Rattle.std.specs.Io.KnownBytes.{Appends}
-use Rattle.std.proofs.KnownBytes.{Appends-trans}
 use Rattle.escp2_definitions.specs.declared.command.Command.TheVariants as c
 use Rattle.page_definitions.specs.PageBytes.{page_coding}
 use Rattle.page_definitions.specs.Strokes.{Spoken, Strokes, bytes_of, page_commands, prologue, say, strokes_bytes}
 use Rattle.page_laws.proofs.Printed.{bytes-append}
 use Rattle.printer_definitions.specs.Printer.{Printer, row_units}
 use Rattle.weave_base.specs.Parts.{AppendsPart}
-use Rattle.weave_base.proofs.Parting.{part_behind, part_of_front}
 use Rattle.dot_planes.specs.Tables.{DotTable}
 use Rattle.page_writer.specs.Heads.{HeadStrokes, strokes_over}
-use Rattle.page_writer.specs.StrokeBytes.{fired_strokes, head_bytes}
+use Rattle.page_writer.specs.Outlets.{Gathers, GathersPart, outlet_of}
+use Rattle.page_writer.specs.StrokeBytes.{end_bytes, fired_strokes, head_bytes}
 use Rattle.page_writer.specs.Sums.{SumsStrokes, rasters_in}
 use Rattle.page_writer.specs.declared.sums.PageSum.{PageSum}
 use Rattle.page_writer.proofs.Inks.{rasters-append}
+use Rattle.page_writer.proofs.Outlets.{fails_before, fails_behind, gathers_all}
 
 -- ---- three parts
 
@@ -32,10 +32,6 @@ end_commands = say c.Eject ∷ say c.Init ∷ []
 -- the bytes of the strokes
 abbrev pub fired_bytes : Printer → ℕ → Strokes → List ℕ
 fired_bytes p width strokes = bytes_of page_coding.code (fired_strokes p width strokes)
-
--- the bytes after the strokes
-abbrev pub end_bytes : List ℕ
-end_bytes = bytes_of page_coding.code (say c.Eject ∷ say c.Init ∷ [])
 
 -- the bytes of a page are those of its parts, where the sheet's numbers are these
 pub page_is : (p : Printer) (head : HeadStrokes) (t : DotTable) {len length top bottom above height : ℕ}
@@ -55,27 +51,33 @@ page_is p head t {len} {length} {top} {bottom} length_is top_is above_is bottom_
 
 -- ---- what a page leaves in a sink
 
--- all three were appended
-pub all_appended : (a b d e : Option (List ℕ)) {whole : List ℕ} (xs ys zs : List ℕ)
-    → whole ≡ xs ++ (ys ++ zs) → Appends a b xs → Appends b d ys → Appends d e zs → Appends a e whole
-all_appended a b d e xs ys zs is p q s =
-    let P : List ℕ → Type 0 = Appends a e in subst P (sym is) (Appends-trans a b e xs (ys ++ zs) p (Appends-trans b d e ys zs q s))
+-- the bytes before the strokes wait, where nothing waited before them
+begun : {empty waiting : List ℕ} (xs : List ℕ) → empty ≡ [] → waiting ≡ empty ++ xs → waiting ≡ xs
+begun xs none is = is ∙ ap (λ bs. bs ++ xs) none
 
--- the first was appended in part
-pub first_part : (a b : Option (List ℕ)) (whole xs ys : List ℕ) → whole ≡ xs ++ ys → AppendsPart a b xs → AppendsPart a b whole
-first_part a b whole xs ys is p = let P : List ℕ → Type 0 = AppendsPart a b in subst P (sym is) (part_of_front a b xs ys p)
+-- all was sent and written
+pub all_written : {a b : Option (List ℕ)} (d : Option (List ℕ)) {whole empty waiting rest : List ℕ} (xs : List ℕ) {ys : List ℕ} (zs : List ℕ)
+    → whole ≡ xs ++ (ys ++ zs) → empty ≡ [] → waiting ≡ empty ++ xs
+    → Gathers (outlet_of a waiting) (outlet_of b rest) ys → Appends b d (rest ++ zs) → Appends a d whole
+all_written {a} d xs {ys} zs is none begins sent written =
+    let P : List ℕ → Type 0 = Appends a d in
+    subst P (ap (λ bs. bs ++ (ys ++ zs)) (begun xs none begins) ∙ sym is) (gathers_all d ys zs sent written)
 
--- the second was appended in part
-pub middle_part : {a b d : Option (List ℕ)} {whole : List ℕ} (xs : List ℕ) {ys : List ℕ} (zs : List ℕ)
-    → whole ≡ xs ++ (ys ++ zs) → Appends a b xs → AppendsPart b d ys → AppendsPart a d whole
-middle_part {a} {b} {d} xs {ys} zs is p q =
-    let P : List ℕ → Type 0 = AppendsPart a d in subst P (sym is) (part_behind a b d xs (ys ++ zs) p (part_of_front b d ys zs q))
+-- the strokes were sent in part
+pub strokes_part : {a d : Option (List ℕ)} {whole empty waiting : List ℕ} (xs ys zs : List ℕ)
+    → whole ≡ xs ++ (ys ++ zs) → empty ≡ [] → waiting ≡ empty ++ xs
+    → GathersPart (outlet_of a waiting) d ys → AppendsPart a d whole
+strokes_part {a} {d} {whole} {empty} {waiting} xs ys zs is none begins part =
+    let P : List ℕ → Type 0 = AppendsPart a d in
+    subst P (ap (λ bs. bs ++ (ys ++ zs)) (begun xs none begins) ∙ sym is) (fails_before (outlet_of a waiting) ys zs part)
 
--- the third was appended in part
-pub last_part : {a : Option (List ℕ)} (b : Option (List ℕ)) {d e : Option (List ℕ)} {whole : List ℕ} (xs ys : List ℕ) {zs : List ℕ}
-    → whole ≡ xs ++ (ys ++ zs) → Appends a b xs → Appends b d ys → AppendsPart d e zs → AppendsPart a e whole
-last_part {a} b {d} {e} xs ys {zs} is p q s =
-    let P : List ℕ → Type 0 = AppendsPart a e in subst P (sym is) (part_behind a b e xs (ys ++ zs) p (part_behind b d e ys zs q s))
+-- all was sent, and what waited was written in part
+pub end_part : {a b d : Option (List ℕ)} {whole empty waiting rest : List ℕ} (xs : List ℕ) {ys : List ℕ} (zs : List ℕ)
+    → whole ≡ xs ++ (ys ++ zs) → empty ≡ [] → waiting ≡ empty ++ xs
+    → Gathers (outlet_of a waiting) (outlet_of b rest) ys → AppendsPart b d (rest ++ zs) → AppendsPart a d whole
+end_part {a} {b} {d} xs {ys} zs is none begins sent part =
+    let P : List ℕ → Type 0 = AppendsPart a d in
+    subst P (ap (λ bs. bs ++ (ys ++ zs)) (begun xs none begins) ∙ sym is) (fails_behind ys zs sent part)
 
 -- ---- what a page takes
 
@@ -102,20 +104,3 @@ page_sums p width height len strokes length' top bottom sum bytes is fired all r
         rasters-append (fired_strokes p width strokes) end_commands,
       ) in none);
 }
-
--- ---- what is appended to nothing
-
--- bytes appended to nothing
-alone : (cleared out text : List ℕ) → cleared ≡ [] → out ≡ cleared ++ text → out ≡ text
-alone cleared out text clear is = is ∙ ap (λ bs. bs ++ text) clear
-
--- what is written of a buffer that has these bytes alone
-pub appends_alone : (old new : Option (List ℕ)) {bytes cleared out : List ℕ} (text : List ℕ) → bytes ≡ out → cleared ≡ [] → out ≡ cleared ++ text
-    → Appends old new bytes → Appends old new text
-appends_alone old new {cleared} {out} text same clear is =
-    let P : List ℕ → Type 0 = Appends old new in subst P (same ∙ alone cleared out text clear is)
-
-pub part_alone : {old new : Option (List ℕ)} {bytes cleared out : List ℕ} {text : List ℕ} → bytes ≡ out → cleared ≡ [] → out ≡ cleared ++ text
-    → AppendsPart old new bytes → AppendsPart old new text
-part_alone {old} {new} {cleared} {out} {text} same clear is =
-    let P : List ℕ → Type 0 = AppendsPart old new in subst P (same ∙ alone cleared out text clear is)

@@ -7,5 +7,6 @@ pub mod StrokeBytes
 pub mod AtMost
 pub mod Shingles
 pub mod Healed
+pub mod Outlets
 pub mod Pieces
 pub mod Writes

@@ -1,11 +1,11 @@
 -- The strokes of a page that are coded in pieces, and what is sent of them.
 use Rattle.std.specs.Prelude.{◌≡◌, ℕ, ◌+◌, ◌-◌, ◌*◌, ◌<◌, ◌≤◌, if◌then◌else◌, List, [], ◌∷◌, length, map, filter, min}
-use Rattle.std.specs.Prelude.{slice_index_or, Option, vec_capacity, vec_len}
-use Rattle.std.specs.Io.KnownBytes.{Appends}
+use Rattle.std.specs.Prelude.{slice_index_or, vec_capacity, vec_len}
 use Rattle.base_definitions.specs.Counting.{count_from}
 use Rattle.page_definitions.specs.PageBytes.{page_coding}
 use Rattle.page_definitions.specs.Strokes.{Spoken, Stroke, bytes_of, fires, strokes_commands}
 use Rattle.page_writer.specs.Heads.{HeadPage, IsPage, stroke_over}
+use Rattle.page_writer.specs.Outlets.{Gathers, Outlet}
 use Rattle.page_writer.specs.StrokeBytes.{IsStroke}
 use Rattle.page_writer.specs.Sums.{most_of_pass, rasters_in}
 use Rattle.page_writer.specs.declared.coded.Coded.{Coded}
@@ -40,8 +40,8 @@ abbrev pub sent_bytes : HeadPage → ℕ → ℕ → ℕ → List ℕ
 sent_bytes page last at count = bytes_of page_coding.code (sent_commands page last at count)
 
 -- So many strokes from one on are sent, where the head was on row `last`.
-pub record SendsStrokes (page : HeadPage) (last at count : ℕ) (old new : Option (List ℕ)) (sent : Sent) : Type 0 where
-  pub appends : Appends old new (sent_bytes page last at count)
+pub record SendsStrokes (page : HeadPage) (last at count : ℕ) (old new : Outlet) (sent : Sent) : Type 0 where
+  pub gathers : Gathers old new (sent_bytes page last at count)
   pub bytes_are : sent.bytes ≡ length (sent_bytes page last at count)
   pub rasters_are : sent.rasters ≡ rasters_in (sent_commands page last at count)
   pub left : sent.last ≡ left_at page.p last (strokes_in page at count)
@@ -100,7 +100,7 @@ abbrev pub batch_bytes : HeadPage → ℕ → Run → ℕ → List ℕ
 batch_bytes page last run pieces = sent_bytes page last run.first (bound_of run pieces - run.first)
 
 -- They are sent.
-abbrev pub SendsBatch : HeadPage → ℕ → Run → ℕ → Option (List ℕ) → Option (List ℕ) → Sent → Type 0
+abbrev pub SendsBatch : HeadPage → ℕ → Run → ℕ → Outlet → Outlet → Sent → Type 0
 SendsBatch page last run pieces old new = SendsStrokes page last run.first (bound_of run pieces - run.first) old new
 
 -- A piece of this page has room for so many strokes.

@@ -1,11 +1,12 @@
 //! Batches of pieces: the workers code one batch while the caller sends the batch before.
 ghost use Rattle.page_writer.specs.Heads.{HeadPage, IsPage};
-ghost use Rattle.page_writer.specs.Pieces.{AllRoomy, AreCoded, Each, HaveRoom, IsAssigned, IsFilled, IsRoomy, SendsBatch};
-ghost use Rattle.page_writer.specs.Pieces.{SendsStrokes, batch_bytes, bound_of, sent_bytes};
+ghost use Rattle.page_writer.specs.Outlets.{GathersPart, outlet_of};
+ghost use Rattle.page_writer.specs.Pieces.{AllRoomy, AreCoded, Each, HaveRoom, IsAssigned, IsFilled, IsRoomy};
+ghost use Rattle.page_writer.specs.Pieces.{SendsBatch, SendsStrokes, batch_bytes, bound_of, sent_bytes};
+ghost use Rattle.page_writer.specs.declared.waiting.TheConstants.{MOST_WAITING};
 ghost use Rattle.std.specs.Prelude.{IfOk, OnErr, OnOk, length, vec_capacity};
 ghost use Rattle.std.specs.Prelude.{◌+◌, ◌-◌, ◌≡◌, ◌≤◌};
 ghost use Rattle.weave_base.specs.Causes.{HasCause};
-ghost use Rattle.weave_base.specs.Parts.{AppendsPart};
 
 use crate::coded::{Piece, Run, Sent};
 use crate::coder::Coder;
@@ -47,7 +48,7 @@ fn put_piece<S: Strokes, K: Sink>(
     end: u32,
     piece: &mut Piece,
     last: u32,
-    step: &mut Vec<u8>,
+    waiting: &mut Vec<u8>,
     sink: &mut K,
 ) -> Result<Sent, Failed>
     requires page { IsPage (S.page page.now) }
@@ -56,18 +57,18 @@ fn put_piece<S: Strokes, K: Sink>(
     requires within { end ≤ first + length piece.old.strokes.items }
     requires coded { AreCoded (S.page page.now) first end piece.old.strokes.items }
     requires room { AllRoomy (S.page page.now) piece.old.strokes.items }
-    requires step { 7 ≤ vec_capacity step.old }
+    requires waiting { MOST_WAITING ≤ vec_capacity waiting.old }
     ensures ok { IfOk result (SendsStrokes (S.page page.now) last first (end - first)
-        (K.held sink.old) (K.held sink.new)) }
-    ensures part { OnErr result
-        (AppendsPart (K.held sink.old) (K.held sink.new) (sent_bytes (S.page page.now) last first (end - first))) }
+        (outlet_of (K.held sink.old) waiting.old.items) (outlet_of (K.held sink.new) waiting.new.items)) }
+    ensures part { OnErr result (GathersPart (outlet_of (K.held sink.old) waiting.old.items) (K.held sink.new)
+        (sent_bytes (S.page page.now) last first (end - first))) }
     ensures cause { HasCause (K.faults sink.old) (K.faults sink.new) result }
     ensures many { length piece.new.strokes.items ≡ length piece.old.strokes.items }
     ensures room { AllRoomy (S.page page.now) piece.new.strokes.items }
-    ensures step { vec_capacity step.old ≤ vec_capacity step.new }
+    ensures capacity { vec_capacity waiting.old ≤ vec_capacity waiting.new }
 {
     let strokes = piece.strokes.as_mut_slice();
-    put_coded_strokes(page, first, end, strokes, last, step, sink)
+    put_coded_strokes(page, first, end, strokes, last, waiting, sink)
 }
 
 /// Pieces of a page, and the strokes of these pieces.
@@ -97,7 +98,7 @@ fn put_batch<S: Strokes, K: Sink>(
     page: &S,
     batch: &mut Batch<'_, S>,
     last: u32,
-    step: &mut Vec<u8>,
+    waiting: &mut Vec<u8>,
     sink: &mut K,
 ) -> Result<Sent, Failed>
     requires page { IsPage (S.page page.now) }
@@ -106,17 +107,17 @@ fn put_batch<S: Strokes, K: Sink>(
     requires first { batch.old.run.first ≤ batch.old.run.count }
     requires filled { Each (λ k coder. IsFilled (S.page page.now) batch.old.run k (S.page coder.page.now) coder.piece)
         batch.old.coders.items }
-    requires step { 7 ≤ vec_capacity step.old }
+    requires waiting { MOST_WAITING ≤ vec_capacity waiting.old }
     ensures ok { IfOk result (SendsBatch (S.page page.now) last batch.old.run (length batch.old.coders.items)
-        (K.held sink.old) (K.held sink.new)) }
-    ensures part { OnErr result (AppendsPart (K.held sink.old) (K.held sink.new)
+        (outlet_of (K.held sink.old) waiting.old.items) (outlet_of (K.held sink.new) waiting.new.items)) }
+    ensures part { OnErr result (GathersPart (outlet_of (K.held sink.old) waiting.old.items) (K.held sink.new)
         (batch_bytes (S.page page.now) last batch.old.run (length batch.old.coders.items))) }
     ensures cause { HasCause (K.faults sink.old) (K.faults sink.new) result }
     ensures run { batch.new.run ≡ batch.old.run }
     ensures many { length batch.new.coders.items ≡ length batch.old.coders.items }
-    ensures room { OnOk result (Each (λ k coder. IsRoomy (S.page page.now) batch.old.run.each (S.page coder.page.now) coder.piece)
-        batch.new.coders.items) }
-    ensures step { vec_capacity step.old ≤ vec_capacity step.new }
+    ensures room { OnOk result (Each (λ k coder. IsRoomy (S.page page.now) batch.old.run.each (S.page coder.page.now)
+        coder.piece) batch.new.coders.items) }
+    ensures capacity { vec_capacity waiting.old ≤ vec_capacity waiting.new }
 {
     let run = batch.run;
     let mut sent = Sent::nothing(last);
@@ -128,7 +129,7 @@ fn put_batch<S: Strokes, K: Sink>(
             run.bound(i + 1),
             piece,
             sent.last,
-            step,
+            waiting,
             sink,
         )?;
         sent = sent.and_then(one);
@@ -144,34 +145,34 @@ fn code_beside<R: Threads + Sync, S: Strokes + Sync, K: Sink>(
     ahead: &mut Batch<'_, S>,
     behind: &mut Batch<'_, S>,
     last: u32,
-    step: &mut Vec<u8>,
+    waiting: &mut Vec<u8>,
     sink: &mut K,
 ) -> Result<Sent, Failed>
     requires page { IsPage (S.page page.now) }
     requires ahead_few { length ahead.old.coders.items ≤ 64 }
     requires ahead_low { ahead.old.run.count ≤ (S.page page.now).head.count }
-    requires ahead_room { Each (λ k coder. IsRoomy (S.page page.now) ahead.old.run.each (S.page coder.page.now) coder.piece)
-        ahead.old.coders.items }
+    requires ahead_room { Each (λ k coder. IsRoomy (S.page page.now) ahead.old.run.each (S.page coder.page.now)
+        coder.piece) ahead.old.coders.items }
     requires few { length behind.old.coders.items ≤ 64 }
     requires low { behind.old.run.count ≤ (S.page page.now).head.count }
     requires first { behind.old.run.first ≤ behind.old.run.count }
     requires filled { Each (λ k coder. IsFilled (S.page page.now) behind.old.run k (S.page coder.page.now) coder.piece)
         behind.old.coders.items }
-    requires step { 7 ≤ vec_capacity step.old }
+    requires waiting { MOST_WAITING ≤ vec_capacity waiting.old }
     ensures ok { IfOk result (SendsBatch (S.page page.now) last behind.old.run (length behind.old.coders.items)
-        (K.held sink.old) (K.held sink.new)) }
-    ensures part { OnErr result (AppendsPart (K.held sink.old) (K.held sink.new)
+        (outlet_of (K.held sink.old) waiting.old.items) (outlet_of (K.held sink.new) waiting.new.items)) }
+    ensures part { OnErr result (GathersPart (outlet_of (K.held sink.old) waiting.old.items) (K.held sink.new)
         (batch_bytes (S.page page.now) last behind.old.run (length behind.old.coders.items))) }
     ensures cause { HasCause (K.faults sink.old) (K.faults sink.new) result }
     ensures run { behind.new.run ≡ behind.old.run }
     ensures many { length behind.new.coders.items ≡ length behind.old.coders.items }
     ensures room { OnOk result (Each (λ k coder. IsRoomy (S.page page.now) behind.old.run.each (S.page coder.page.now)
         coder.piece) behind.new.coders.items) }
-    ensures step { vec_capacity step.old ≤ vec_capacity step.new }
+    ensures capacity { vec_capacity waiting.old ≤ vec_capacity waiting.new }
     ensures ahead_run { ahead.new.run ≡ ahead.old.run }
     ensures ahead_many { length ahead.new.coders.items ≡ length ahead.old.coders.items }
-    ensures ahead_filled { Each (λ k coder. IsFilled (S.page page.now) ahead.old.run k (S.page coder.page.now) coder.piece)
-        ahead.new.coders.items }
+    ensures ahead_filled { Each (λ k coder. IsFilled (S.page page.now) ahead.old.run k (S.page coder.page.now)
+        coder.piece) ahead.new.coders.items }
 {
     assign(ahead.run, &mut ahead.coders);
     let mut errand = || -> Result<Sent, Failed>
@@ -179,18 +180,20 @@ fn code_beside<R: Threads + Sync, S: Strokes + Sync, K: Sink>(
             × (behind.now.run.count ≤ (S.page page.now).head.count) × (behind.now.run.first ≤ behind.now.run.count)
             × Each (λ k coder. IsFilled (S.page page.now) behind.now.run k (S.page coder.page.now) coder.piece)
             behind.now.coders.items
-            × (7 ≤ vec_capacity step.now) }
+            × (MOST_WAITING ≤ vec_capacity waiting.now) }
         ensures { IfOk result (SendsBatch (S.page page.entry.now) last behind.entry.now.run
-            (length behind.entry.now.coders.items) (K.held sink.entry.now) (K.held sink.exit.now))
-            × OnErr result (AppendsPart (K.held sink.entry.now) (K.held sink.exit.now)
+            (length behind.entry.now.coders.items) (outlet_of (K.held sink.entry.now) waiting.entry.now.items)
+            (outlet_of (K.held sink.exit.now) waiting.exit.now.items))
+            × OnErr result (GathersPart (outlet_of (K.held sink.entry.now) waiting.entry.now.items)
+            (K.held sink.exit.now)
             (batch_bytes (S.page page.entry.now) last behind.entry.now.run (length behind.entry.now.coders.items)))
             × HasCause (K.faults sink.entry.now) (K.faults sink.exit.now) result
             × (behind.exit.now.run ≡ behind.entry.now.run)
             × (length behind.exit.now.coders.items ≡ length behind.entry.now.coders.items)
             × OnOk result (Each (λ k coder. IsRoomy (S.page page.entry.now) behind.entry.now.run.each
             (S.page coder.page.now) coder.piece) behind.exit.now.coders.items)
-            × (vec_capacity step.entry.now ≤ vec_capacity step.exit.now) }
-    { put_batch(page, behind, last, step, sink) };
+            × (vec_capacity waiting.entry.now ≤ vec_capacity waiting.exit.now) }
+    { put_batch(page, behind, last, waiting, sink) };
     run_beside(threads, ahead.coders.as_mut_slice(), &mut errand)
 }
 
@@ -199,18 +202,18 @@ pub(crate) fn put_batches<R: Threads + Sync, S: Strokes + Sync, K: Sink>(
     threads: &R,
     page: &S,
     batches: Batches<'_, S>,
-    step: &mut Vec<u8>,
+    waiting: &mut Vec<u8>,
     sink: &mut K,
 ) -> Result<Sent, Failed>
     requires page { IsPage (S.page page.now) }
     requires batches { HaveRoom (λ it. S.page it) (S.page page.now) batches }
-    requires step { 7 ≤ vec_capacity step.old }
+    requires waiting { MOST_WAITING ≤ vec_capacity waiting.old }
     ensures ok { IfOk result (SendsStrokes (S.page page.now) 0 0 (S.page page.now).head.count
-        (K.held sink.old) (K.held sink.new)) }
-    ensures part { OnErr result (AppendsPart (K.held sink.old) (K.held sink.new)
+        (outlet_of (K.held sink.old) waiting.old.items) (outlet_of (K.held sink.new) waiting.new.items)) }
+    ensures part { OnErr result (GathersPart (outlet_of (K.held sink.old) waiting.old.items) (K.held sink.new)
         (sent_bytes (S.page page.now) 0 0 (S.page page.now).head.count)) }
     ensures cause { HasCause (K.faults sink.old) (K.faults sink.new) result }
-    ensures step { vec_capacity step.old ≤ vec_capacity step.new }
+    ensures capacity { vec_capacity waiting.old ≤ vec_capacity waiting.new }
 {
     let Batches {
         each,
@@ -241,7 +244,7 @@ pub(crate) fn put_batches<R: Threads + Sync, S: Strokes + Sync, K: Sink>(
             &mut ahead,
             &mut behind,
             sent.last,
-            step,
+            waiting,
             sink,
         )?;
         sent = sent.and_then(one);

@@ -8,6 +8,9 @@ ghost use Rattle.std.specs.Prelude.{IfSome, replicate, ◌<◌, ◌==◌, ◌≡
 use base_definitions::MOST_ROW_BYTES;
 use dot_planes::Planes;
 
+// How many bytes of a row are looked at at once.
+const BLOCK: usize = 64;
+
 // The widest row, without dots.
 static BLANK: [u8; MOST_ROW_BYTES] = [0; MOST_ROW_BYTES];
 
@@ -34,15 +37,42 @@ pub(crate) fn plane_row(planes: &Planes, place: u8, row: Option<u32>) -> &[u8]
     }
 }
 
-/// Whether a packed row has no dot: its greatest byte is 0. The loop never ends early, so it can take many bytes at
-/// once.
+// Whether a block has no dot: its greatest byte is 0. The loop has a known length and never ends early, so that it
+// becomes vectors.
+#[inline(always)]
+fn is_blank_block(block: &[u8; BLOCK]) -> bool
+    ensures { result ≡ list_all (λ byte. byte == 0) block.now }
+{
+    let mut most = 0u8;
+    'bytes: for k in 0..BLOCK {
+        most = most.max(block[k]);
+    }
+    most == 0
+}
+
+// The same of the few bytes behind the last block.
+#[inline(always)]
+fn is_blank_rest(rest: &[u8]) -> bool
+    ensures { result ≡ list_all (λ byte. byte == 0) rest.now }
+{
+    let mut most = 0u8;
+    'bytes: for byte in rest {
+        most = most.max(*byte);
+    }
+    most == 0
+}
+
+/// Whether a packed row has no dot.
 #[inline]
 pub fn is_blank(row: &[u8]) -> bool
     ensures { result ≡ list_all (λ byte. byte == 0) row.now }
 {
-    let mut most = 0u8;
-    'bytes: for byte in row {
-        most = most.max(*byte);
+    let mut rest = row;
+    'blocks: while let Some((block, behind)) = rest.split_first_chunk() {
+        if !is_blank_block(block) {
+            return false;
+        }
+        rest = behind;
     }
-    most == 0
+    is_blank_rest(rest)
 }

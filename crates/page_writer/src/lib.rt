@@ -20,8 +20,11 @@
 //! fires only what the way lets it fire (`keeps`). `write_page`, `write_shingled` and `write_healed` do the same, each
 //! for its way.
 //!
+//! The bytes of a page are gathered, so that the sink gets few and large writes: up to 64 KiB wait for the next write.
+//! A stroke of 16 KiB or more is written from where it was coded. No byte waits past the end of a page.
+//!
 //! `short` bounds the bytes: at most 49 + strokes * (7 + inks * (12 + 2 * nozzles * bytes of a row)). Only tests cover
-//! that each stroke is one call of `put_all`, and so are the commands before the strokes and the commands after them.
+//! how many writes a page takes.
 #![tactic(auto)]
 
 mod alone;
@@ -45,6 +48,7 @@ mod shingles;
 mod stroke;
 mod strokes;
 mod sums;
+mod waiting;
 mod ways;
 mod worn;
 

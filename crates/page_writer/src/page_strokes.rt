@@ -5,12 +5,12 @@ ghost use Rattle.page_definitions.specs.Strokes.{bytes_of, down_by};
 ghost use Rattle.page_writer.specs.Heads.{HeadPage, IsPage, stroke_over};
 ghost use Rattle.page_writer.specs.StrokeBytes.{IsStroke};
 ghost use Rattle.printer_definitions.specs.Printer.{row_units as row_units_of};
-ghost use Rattle.std.specs.Prelude.{length, vec_capacity, vec_len, ◌*◌, ◌++◌, ◌-◌};
+ghost use Rattle.std.specs.Prelude.{drop, length, vec_capacity, vec_len, ◌*◌, ◌++◌, ◌-◌};
 ghost use Rattle.std.specs.Prelude.{◌+◌, ◌/◌, ◌<◌, ◌≡◌, ◌≤◌};
 
 use crate::head::Head;
 use crate::numbers::row_units;
-use crate::stroke::{append_inks, append_step};
+use crate::stroke::{append_inks, put_step};
 use dot_planes::Planes;
 use printer_profile::Profile;
 
@@ -45,15 +45,16 @@ pub(crate) trait Strokes {
         ensures capacity { vec_capacity out.old ≤ vec_capacity out.new }
         ensures long { length room.new ≡ length room.old };
 
-    /// Appends the step down to a row from the row `last`, or nothing if the head is already there.
-    fn append_step(&self, row: u32, last: u32, out: &mut Vec<u8>)
+    /// Puts the step down to a row from the row `last` right before the code of a stroke, into the seven bytes of room
+    /// in front of it, or nothing if the head is already there. Returns where the step begins.
+    fn put_step(&self, row: u32, last: u32, code: &mut [u8]) -> usize
         requires page { IsPage (page self.now) }
         requires low { row * row_units_of (page self.now).p ≤ most_rows }
-        requires space { vec_len out.old + 7 ≤ vec_capacity out.old }
-        ensures items { out.new.items ≡ out.old.items
-            ++ bytes_of page_coding.code (down_by ((row - last) * row_units_of (page self.now).p)) }
-        ensures most { vec_len out.new ≤ vec_len out.old + 7 }
-        ensures capacity { vec_capacity out.old ≤ vec_capacity out.new };
+        requires room { 7 ≤ length code.old }
+        ensures step { drop result code.new
+            ≡ bytes_of page_coding.code (down_by ((row - last) * row_units_of (page self.now).p)) ++ drop 7 code.old }
+        ensures within { result ≤ 7 }
+        ensures long { length code.new ≡ length code.old };
 }
 
 /// The strokes of a printer's head over planes.
@@ -87,10 +88,8 @@ impl<'a, H: Head> Strokes for PageStrokes<'a, H> {
         )
     }
 
-    fn append_step(&self, row: u32, last: u32, out: &mut Vec<u8>) {
-        append_step(
-            row.saturating_sub(last) as u16 * row_units(self.profile),
-            out,
-        );
+    fn put_step(&self, row: u32, last: u32, code: &mut [u8]) -> usize {
+        let units = row.saturating_sub(last) as u16 * row_units(self.profile);
+        put_step(units, code)
     }
 }

@@ -1,15 +1,15 @@
-//! Sends coded strokes, each in one write.
+//! Sends coded strokes.
 ghost use Rattle.page_writer.specs.Heads.{IsPage};
+ghost use Rattle.page_writer.specs.Outlets.{GathersPart, outlet_of};
 ghost use Rattle.page_writer.specs.Pieces.{AllRoomy, AreCoded, HasRoom, IsCoded, SendsStrokes, sent_both, sent_bytes};
-ghost use Rattle.std.specs.Prelude.{IfOk, OnErr, drop, length, vec_capacity, ◌++◌};
-ghost use Rattle.std.specs.Prelude.{◌+◌, ◌-◌, ◌<◌, ◌^◌, ◌≡◌, ◌≤◌};
+ghost use Rattle.page_writer.specs.declared.waiting.TheConstants.{MOST_WAITING};
+ghost use Rattle.std.specs.Prelude.{IfOk, OnErr, length, vec_capacity, ◌+◌, ◌-◌, ◌<◌, ◌^◌, ◌≡◌, ◌≤◌};
 ghost use Rattle.weave_base.specs.Causes.{HasCause};
-ghost use Rattle.weave_base.specs.Parts.{AppendsPart};
 
 use crate::coded::{Coded, Sent};
-use crate::coding::STEP;
 use crate::page_strokes::Strokes;
-use weave_base::{Failed, Sink, put_all};
+use crate::waiting::send;
+use weave_base::{Failed, Sink};
 
 impl Sent {
     /// Nothing was sent, and the head is on row `last`.
@@ -37,50 +37,36 @@ impl Sent {
     }
 }
 
-// Puts a step right before the code of a stroke, into the room in front of it, and gives where the step begins.
-fn put_step(step: &[u8], code: &mut [u8]) -> usize
-    requires step { length step.now ≤ 7 }
-    requires room { 7 ≤ length code.old }
-    ensures bytes { drop result code.new ≡ step.now ++ drop 7 code.old }
-    ensures begin { result ≡ 7 - length step.now }
-    ensures long { length code.new ≡ length code.old }
-{
-    let begin = STEP - step.len();
-    code[begin..STEP].copy_from_slice(step);
-    begin
-}
-
 /// Sends a stroke, or nothing if no ink has a dot in the stroke. The head is on row `last`.
 pub(crate) fn put_coded<S: Strokes, K: Sink>(
     page: &S,
     stroke: u32,
     coded: &mut Coded,
     last: u32,
-    step: &mut Vec<u8>,
+    waiting: &mut Vec<u8>,
     sink: &mut K,
 ) -> Result<Sent, Failed>
     requires page { IsPage (S.page page.now) }
     requires stroke { stroke < (S.page page.now).head.count }
     requires coded { IsCoded (S.page page.now) stroke coded.old }
     requires room { HasRoom (S.page page.now) coded.old }
-    requires step { 7 ≤ vec_capacity step.old }
-    ensures ok { IfOk result (SendsStrokes (S.page page.now) last stroke 1 (K.held sink.old) (K.held sink.new)) }
-    ensures part { OnErr result
-        (AppendsPart (K.held sink.old) (K.held sink.new) (sent_bytes (S.page page.now) last stroke 1)) }
+    requires waiting { MOST_WAITING ≤ vec_capacity waiting.old }
+    ensures ok { IfOk result (SendsStrokes (S.page page.now) last stroke 1
+        (outlet_of (K.held sink.old) waiting.old.items) (outlet_of (K.held sink.new) waiting.new.items)) }
+    ensures part { OnErr result (GathersPart (outlet_of (K.held sink.old) waiting.old.items) (K.held sink.new)
+        (sent_bytes (S.page page.now) last stroke 1)) }
     ensures cause { HasCause (K.faults sink.old) (K.faults sink.new) result }
     ensures room { HasRoom (S.page page.now) coded.new }
-    ensures step { vec_capacity step.old ≤ vec_capacity step.new }
+    ensures capacity { vec_capacity waiting.old ≤ vec_capacity waiting.new }
 {
     if coded.rasters == 0 {
         return Ok(Sent::nothing(last));
     }
     let row = page.start(stroke);
-    step.clear();
-    page.append_step(row, last, step);
     let rasters = coded.rasters;
     let code = coded.code.as_mut_slice();
-    let begin = put_step(step, code);
-    put_all(sink, &code[begin..])?;
+    let begin = page.put_step(row, last, code);
+    send(&code[begin..], waiting, sink)?;
     Ok(Sent {
         bytes: (code.len() - begin) as u64,
         rasters,
@@ -88,15 +74,14 @@ pub(crate) fn put_coded<S: Strokes, K: Sink>(
     })
 }
 
-/// Sends the coded strokes from `first` to before `end`. The head is on row `last`. The vector `step` has room for a
-/// step.
+/// Sends the coded strokes from `first` to before `end`. The head is on row `last`.
 pub(crate) fn put_coded_strokes<S: Strokes, K: Sink>(
     page: &S,
     first: u32,
     end: u32,
     strokes: &mut [Coded],
     last: u32,
-    step: &mut Vec<u8>,
+    waiting: &mut Vec<u8>,
     sink: &mut K,
 ) -> Result<Sent, Failed>
     requires page { IsPage (S.page page.now) }
@@ -105,19 +90,19 @@ pub(crate) fn put_coded_strokes<S: Strokes, K: Sink>(
     requires within { end ≤ first + length strokes.old }
     requires coded { AreCoded (S.page page.now) first end strokes.old }
     requires room { AllRoomy (S.page page.now) strokes.old }
-    requires step { 7 ≤ vec_capacity step.old }
+    requires waiting { MOST_WAITING ≤ vec_capacity waiting.old }
     ensures ok { IfOk result (SendsStrokes (S.page page.now) last first (end - first)
-        (K.held sink.old) (K.held sink.new)) }
-    ensures part { OnErr result
-        (AppendsPart (K.held sink.old) (K.held sink.new) (sent_bytes (S.page page.now) last first (end - first))) }
+        (outlet_of (K.held sink.old) waiting.old.items) (outlet_of (K.held sink.new) waiting.new.items)) }
+    ensures part { OnErr result (GathersPart (outlet_of (K.held sink.old) waiting.old.items) (K.held sink.new)
+        (sent_bytes (S.page page.now) last first (end - first))) }
     ensures cause { HasCause (K.faults sink.old) (K.faults sink.new) result }
     ensures room { AllRoomy (S.page page.now) strokes.new }
-    ensures step { vec_capacity step.old ≤ vec_capacity step.new }
+    ensures capacity { vec_capacity waiting.old ≤ vec_capacity waiting.new }
 {
     let mut sent = Sent::nothing(last);
     'strokes: for stroke in first..end {
         let coded = &mut strokes[(stroke - first) as usize];
-        let one = put_coded(page, stroke, coded, sent.last, step, sink)?;
+        let one = put_coded(page, stroke, coded, sent.last, waiting, sink)?;
         sent = sent.and_then(one);
     }
     Ok(sent)

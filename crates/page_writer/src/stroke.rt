@@ -3,26 +3,31 @@ ghost use Rattle.page_definitions.specs.PageBytes.{page_coding};
 ghost use Rattle.page_definitions.specs.Strokes.{bytes_of, down_by};
 ghost use Rattle.page_writer.specs.Heads.{Suits, stroke_over};
 ghost use Rattle.page_writer.specs.StrokeBytes.{IsStroke};
-ghost use Rattle.std.specs.Prelude.{length, vec_capacity, vec_len, ◌*◌, ◌++◌};
+ghost use Rattle.std.specs.Prelude.{drop, length, vec_capacity, vec_len, ◌*◌, ◌++◌};
 ghost use Rattle.std.specs.Prelude.{◌+◌, ◌/◌, ◌<◌, ◌≡◌, ◌≤◌};
 
+use crate::coding::STEP;
 use crate::head::Head;
 use crate::ink::append_ink;
 use crate::numbers::raster_header;
 use dot_planes::Planes;
-use escp2_writer::{Command, append_header};
+use escp2_writer::{Command, header_bytes};
 use printer_profile::Profile;
 
-/// Appends a step down by this many units; nothing for 0.
-pub(crate) fn append_step(units: u16, out: &mut Vec<u8>)
-    requires { vec_len out.old + 7 ≤ vec_capacity out.old }
-    ensures items { out.new.items ≡ out.old.items ++ bytes_of page_coding.code (down_by units) }
-    ensures most { vec_len out.new ≤ vec_len out.old + 7 }
-    ensures capacity { vec_capacity out.old ≤ vec_capacity out.new }
+/// Puts a step down by this many units right before the code of a stroke, into the seven bytes of room in front of it,
+/// or nothing for 0. Returns where the step begins.
+pub(crate) fn put_step(units: u16, code: &mut [u8]) -> usize
+    requires { 7 ≤ length code.old }
+    ensures step { drop result code.new ≡ bytes_of page_coding.code (down_by units) ++ drop 7 code.old }
+    ensures within { result ≤ 7 }
+    ensures long { length code.new ≡ length code.old }
 {
-    if units > 0 {
-        append_header(&Command::DownBy { n: units }, out);
+    if units == 0 {
+        return STEP;
     }
+    let step = header_bytes(&Command::DownBy { n: units });
+    code[..STEP].copy_from_slice(step.as_slice());
+    0
 }
 
 /// Appends what the inks fire in a stroke, and returns the number of rasters.

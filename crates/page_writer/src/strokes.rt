@@ -1,16 +1,18 @@
 //! A whole page, from the strokes of a head.
 ghost use Rattle.buffered_bytes.specs.Outside.{outside_of};
 ghost use Rattle.page_writer.specs.Heads.{Suits, strokes_over};
+ghost use Rattle.page_writer.specs.Outlets.{GathersPart, outlet_of};
 ghost use Rattle.page_writer.specs.Pieces.{HaveRoom, SendsStrokes, sent_bytes};
-ghost use Rattle.page_writer.specs.StrokeBytes.{head_bytes};
+ghost use Rattle.page_writer.specs.StrokeBytes.{end_bytes, head_bytes};
 ghost use Rattle.page_writer.specs.Sums.{SumsStrokes, most_of_pass as most_of_pass_of};
 ghost use Rattle.page_writer.specs.Writes.{WritesStrokes};
+ghost use Rattle.page_writer.specs.declared.waiting.TheConstants.{MOST_WAITING};
 ghost use Rattle.printer_definitions.specs.Printer.{row_units as row_units_of};
 ghost use Rattle.pwg_definitions.specs.Header.{IsWanted};
 ghost use Rattle.separation_definitions.specs.Windows.{wanted_by, window_of};
 ghost use Rattle.std.specs.Io.KnownBytes.{Appends};
 ghost use Rattle.std.specs.Prelude.{IfOk, IfSome, OnErr, OnOk, []};
-ghost use Rattle.std.specs.Prelude.{vec_capacity, vec_len, ◌*◌, ◌+◌, ◌≡◌, ◌≤◌};
+ghost use Rattle.std.specs.Prelude.{vec_capacity, vec_len, ◌*◌, ◌++◌, ◌+◌, ◌≡◌, ◌≤◌};
 ghost use Rattle.weave_base.specs.Causes.{HasCause};
 ghost use Rattle.weave_base.specs.Parts.{AppendsPart};
 
@@ -20,15 +22,16 @@ use crate::coded::{Coded, Sent};
 use crate::head::Head;
 use crate::numbers::sheet_of;
 use crate::page_strokes::{PageStrokes, Strokes};
-use crate::prologue::{PROLOGUE, append_end, append_prologue};
+use crate::prologue::{END, append_end, append_prologue};
 use crate::room::{Batches, cut};
 use crate::sums::{FRAME, PageSum, most_of_pass};
+use crate::waiting::{MOST_WAITING, flush, make_room};
 use base_definitions::Memory;
 use dot_planes::Planes;
 use printer_profile::{PageForm, Profile};
 use std::alloc::Global;
 use std::thread::Threads;
-use weave_base::{Failed, Sink, put_all};
+use weave_base::{Failed, Sink};
 use worker_team::Team;
 
 /// Why a page was not written whole.
@@ -40,14 +43,13 @@ pub enum WriteStop {
     Memory,
 }
 
-// Sends the strokes of a page, each in one write: coded by all workers where there is room for their batches, else by
-// the caller alone.
+// Sends the strokes of a page: coded by all workers where there is room for their batches, else by the caller alone.
 fn put_by_all<R: Threads + Sync, H: Head + Sync, K: Sink>(
     threads: &R,
     page: &PageStrokes<'_, H>,
     batches: Option<Batches<'_, PageStrokes<'_, H>>>,
     coded: &mut Coded,
-    step: &mut Vec<u8>,
+    waiting: &mut Vec<u8>,
     sink: &mut K,
 ) -> Result<Sent, Failed>
     requires suits { Suits page.now.profile.now (H.strokes page.now.head.now) page.now.planes.now }
@@ -55,20 +57,34 @@ fn put_by_all<R: Threads + Sync, H: Head + Sync, K: Sink>(
         (λ it. record { p = it.profile.now; head = H.strokes it.head.now; t = it.planes.now })
         (record { p = page.now.profile.now; head = H.strokes page.now.head.now; t = page.now.planes.now })) }
     requires room { most_of_pass_of page.now.profile.now page.now.planes.now.width ≤ vec_capacity coded.old.code }
-    requires step { 7 ≤ vec_capacity step.old }
+    requires waiting { MOST_WAITING ≤ vec_capacity waiting.old }
     ensures ok { IfOk result (SendsStrokes
         (record { p = page.now.profile.now; head = H.strokes page.now.head.now; t = page.now.planes.now })
-        0 0 (H.strokes page.now.head.now).count (K.held sink.old) (K.held sink.new)) }
-    ensures part { OnErr result (AppendsPart (K.held sink.old) (K.held sink.new) (sent_bytes
+        0 0 (H.strokes page.now.head.now).count
+        (outlet_of (K.held sink.old) waiting.old.items) (outlet_of (K.held sink.new) waiting.new.items)) }
+    ensures part { OnErr result (GathersPart (outlet_of (K.held sink.old) waiting.old.items) (K.held sink.new)
+        (sent_bytes
         (record { p = page.now.profile.now; head = H.strokes page.now.head.now; t = page.now.planes.now })
         0 0 (H.strokes page.now.head.now).count)) }
     ensures cause { HasCause (K.faults sink.old) (K.faults sink.new) result }
-    ensures step { vec_capacity step.old ≤ vec_capacity step.new }
+    ensures capacity { vec_capacity waiting.old ≤ vec_capacity waiting.new }
 {
     match batches {
-        Some(batches) => put_batches(threads, page, batches, step, sink),
-        None => put_alone(page, coded, step, sink),
+        Some(batches) => put_batches(threads, page, batches, waiting, sink),
+        None => put_alone(page, coded, waiting, sink),
     }
+}
+
+// Writes what waits of a page and then its end, so that no byte waits any longer.
+fn put_end<K: Sink>(waiting: &mut Vec<u8>, sink: &mut K) -> Result<(), Failed>
+    requires waiting { MOST_WAITING ≤ vec_capacity waiting.old }
+    ensures ok { OnOk result (Appends (K.held sink.old) (K.held sink.new) (waiting.old.items ++ end_bytes)) }
+    ensures part { OnErr result (AppendsPart (K.held sink.old) (K.held sink.new) (waiting.old.items ++ end_bytes)) }
+    ensures cause { HasCause (K.faults sink.old) (K.faults sink.new) result }
+{
+    make_room(END as usize, waiting, sink)?;
+    append_end(waiting);
+    flush(waiting, sink)
 }
 
 // Writes a page whose room is reserved: its prologue, its strokes, and its end.
@@ -78,7 +94,7 @@ fn put_page<R: Threads + Sync, H: Head + Sync, K: Sink>(
     batches: Option<Batches<'_, PageStrokes<'_, H>>>,
     form: PageForm,
     coded: &mut Coded,
-    out: &mut Vec<u8>,
+    waiting: &mut Vec<u8>,
     sink: &mut K,
 ) -> Result<PageSum, Failed>
     requires suits { Suits page.now.profile.now (H.strokes page.now.head.now) page.now.planes.now }
@@ -87,9 +103,9 @@ fn put_page<R: Threads + Sync, H: Head + Sync, K: Sink>(
     requires batches { IfSome batches (HaveRoom
         (λ it. record { p = it.profile.now; head = H.strokes it.head.now; t = it.planes.now })
         (record { p = page.now.profile.now; head = H.strokes page.now.head.now; t = page.now.planes.now })) }
-    requires empty { out.old.items ≡ [] }
-    requires none { vec_len out.old ≡ 0 }
-    requires prologue { 46 ≤ vec_capacity out.old }
+    requires empty { waiting.old.items ≡ [] }
+    requires none { vec_len waiting.old ≡ 0 }
+    requires waiting { MOST_WAITING ≤ vec_capacity waiting.old }
     requires room { most_of_pass_of page.now.profile.now page.now.planes.now.width ≤ vec_capacity coded.old.code }
     ensures ok { OnOk result (Appends (K.held sink.old) (K.held sink.new) (head_bytes page.now.profile.now
         (H.strokes page.now.head.now) page.now.planes.now (form.height * row_units_of page.now.profile.now))) }
@@ -102,12 +118,9 @@ fn put_page<R: Threads + Sync, H: Head + Sync, K: Sink>(
     ensures short { IfOk result (λ sum. sum.bytes
         ≤ 49 + (H.strokes page.now.head.now).count * most_of_pass_of page.now.profile.now page.now.planes.now.width) }
 {
-    append_prologue(sheet_of(page.profile, form, page.head.above()), out);
-    put_all(sink, out)?;
-    let strokes = put_by_all(threads, page, batches, coded, out, sink)?;
-    out.clear();
-    append_end(out);
-    put_all(sink, out)?;
+    append_prologue(sheet_of(page.profile, form, page.head.above()), waiting);
+    let strokes = put_by_all(threads, page, batches, coded, waiting, sink)?;
+    put_end(waiting, sink)?;
     Ok(PageSum {
         bytes: FRAME + strokes.bytes,
         rasters: strokes.rasters,
@@ -140,8 +153,8 @@ fn batches_of<'a, H: Head>(
 /// rasters. The job is graphics mode and the sheet, then the strokes that have a dot, and the end of the sheet (ESC/P
 /// Reference Manual, graphics commands). Rows of rasters are coded.
 ///
-/// All memory is taken before the first byte: room for one stroke, and for several workers room for two batches. On
-/// `Write` the sink took a proper prefix of the bytes.
+/// All memory is taken before the first byte: room for one stroke and for bytes that wait, and for several workers room
+/// for two batches. On `Write` the sink took a proper prefix of the bytes.
 pub fn write_strokes<R: Threads + Sync, G, H: Head + Sync, K: Sink>(
     team: &Team<'_, R, G>,
     alloc: Global,
@@ -161,7 +174,7 @@ pub fn write_strokes<R: Threads + Sync, G, H: Head + Sync, K: Sink>(
     let Ok(mut coded) = Coded::make(alloc, most as usize) else {
         return Err(WriteStop::Memory);
     };
-    let Ok(mut out) = Vec::with_capacity(alloc, PROLOGUE as usize) else {
+    let Ok(mut waiting) = Vec::with_capacity(alloc, MOST_WAITING) else {
         return Err(WriteStop::Memory);
     };
     let page = PageStrokes {
@@ -176,7 +189,7 @@ pub fn write_strokes<R: Threads + Sync, G, H: Head + Sync, K: Sink>(
         batches,
         form,
         &mut coded,
-        &mut out,
+        &mut waiting,
         sink,
     ) {
         Ok(sum) => Ok(sum),

@@ -1,6 +1,7 @@
 use Rattle.std.proofs.Common.{◌+◌, arith, subst, sym}
 use Rattle.weave_base.proofs.Parting.{on_err_anyway}
 use Rattle.page_writer.specs.Heads.{HeadPage}
+use Rattle.page_writer.specs.Outlets.{outlet_of}
 use Rattle.page_writer.specs.Pieces.{SendsStrokes}
 use Rattle.page_writer.specs.declared.coded.Sent.{Sent}
 use Rattle.page_writer.proofs.Pieces.{part_join, sends_join, sent_fits}
@@ -21,10 +22,11 @@ strokes-preserved g c =
     let page : HeadPage = g.S.Strokes.page c.args.page.now in
     record {
       sent = let P : Sent → Type 0 = SendsStrokes page 0 0 (c.strokes.stroke + 1)
-          (g.K.Sink.held c.args.sink.now) (g.K.Sink.held c.put_coded.new.sink) in
+          (outlet_of (g.K.Sink.held c.args.sink.now) c.args.waiting.now.items)
+          (outlet_of (g.K.Sink.held c.put_coded.new.sink) c.put_coded.new.waiting.items) in
           subst P (sym c.and_then-sent.ensures) (sends_join (omega arith) (omega arith) c.strokes.invariant.sent c.in_ok-one.ensures.ok);
       room = c.in_ok-one.ensures.room;
       row = omega (arith, c.strokes.invariant.row, c.code_stroke.ensures.long);
-      step = omega (arith, c.strokes.invariant.step, c.in_ok-one.ensures.step);
+      capacity = omega (arith, c.strokes.invariant.capacity, c.in_ok-one.ensures.capacity);
       later = omega (arith, c.strokes.invariant.later, c.in_ok-one.ensures.cause.later);
     }

@@ -1,6 +1,7 @@
 use Rattle.std.proofs.Common.{◌∙◌, ◌+◌, ◌-◌, ◌≤◌, ℕ, arith, length, length-set, subst, sym}
 use Rattle.weave_base.proofs.Parting.{on_err_anyway}
 use Rattle.page_writer.specs.Heads.{HeadPage}
+use Rattle.page_writer.specs.Outlets.{outlet_of}
 use Rattle.page_writer.specs.Pieces.{SendsStrokes, bound_of}
 use Rattle.page_writer.specs.declared.coded.Run.{Run}
 use Rattle.page_writer.specs.declared.coded.Sent.{Sent}
@@ -48,9 +49,10 @@ pieces-preserved g c =
             λ low. absurd (omega (arith, low)),
           );
       sent = let P : Sent → Type 0 = SendsStrokes page c.args.last run.first (bound_of run (i + 1) - run.first)
-          (g.K.Sink.held c.args.sink.now) (g.K.Sink.held c.put_piece.new.sink) in
+          (outlet_of (g.K.Sink.held c.args.sink.now) c.args.waiting.now.items)
+          (outlet_of (g.K.Sink.held c.put_piece.new.sink) c.put_piece.new.waiting.items) in
           subst P (sym c.and_then-sent.ensures) (sends_join (omega (arith, above, c.bound.ensures))
           (omega (arith, above, rises, c.bound.ensures, c.bound-in-pieces.ensures)) c.pieces.invariant.sent c.in_ok-one.ensures.ok);
-      step = omega (arith, c.pieces.invariant.step, c.in_ok-one.ensures.step);
+      capacity = omega (arith, c.pieces.invariant.capacity, c.in_ok-one.ensures.capacity);
       later = omega (arith, c.pieces.invariant.later, c.in_ok-one.ensures.cause.later);
     }

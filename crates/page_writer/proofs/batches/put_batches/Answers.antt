@@ -3,6 +3,7 @@ use Rattle.std.proofs.Math.Nat.{mul-le-mul}
 use Rattle.std.specs.declared.vec.Vec.{Vec}
 use Rattle.weave_base.proofs.Parting.{on_err_anyway}
 use Rattle.page_writer.specs.Heads.{HeadPage}
+use Rattle.page_writer.specs.Outlets.{outlet_of}
 use Rattle.page_writer.specs.Pieces.{Each, IsFilled, IsRoomy, SendsStrokes, bound_of}
 use Rattle.page_writer.specs.declared.coded.Run.{Run}
 use Rattle.page_writer.specs.declared.coder.Coder.{Coder}
@@ -96,9 +97,10 @@ batches-preserved g c =
           let Q : Run → Type 0 = λ r. Each (λ k coder. IsFilled page r k (g.S.Strokes.page coder.page.now) coder.piece) c.swap.new.y.coders.items in
           subst Q (sym here_is) (subst P (sym here_coders) c.in_ok-one.ensures.ahead_filled);
       next = ap (λ r. bound_of r (length c.swap.new.y.coders.items)) here_is ∙ ap (bound_of run) here_many ∙ sym next_is;
-      sent = let P : Sent → Type 0 = SendsStrokes page 0 0 c.swap.new.y.run.first (g.K.Sink.held c.args.sink.now) (g.K.Sink.held c.code_beside.new.sink) in
+      sent = let P : Sent → Type 0 = SendsStrokes page 0 0 c.swap.new.y.run.first (outlet_of (g.K.Sink.held c.args.sink.now) c.args.waiting.now.items)
+          (outlet_of (g.K.Sink.held c.code_beside.new.sink) c.code_beside.new.waiting.items) in
           subst P (sym c.and_then-sent.ensures) (sends_join (omega arith)
           (omega (arith, ap (λ (r : Run). r.first) here_is, c.batches.invariant.next, above)) c.batches.invariant.sent c.in_ok-one.ensures.ok);
-      step = omega (arith, c.batches.invariant.step, c.in_ok-one.ensures.step);
+      capacity = omega (arith, c.batches.invariant.capacity, c.in_ok-one.ensures.capacity);
       later = omega (arith, c.batches.invariant.later, c.in_ok-one.ensures.cause.later);
     }

@@ -1,4 +1,5 @@
 use Rattle.std.proofs.Common.{◌≡◌, ◌+◌, ◌-◌, ◌≤◌, length, vec_capacity}
+use Rattle.page_writer.specs.Outlets.{outlet_of}
 use Rattle.page_writer.specs.Pieces.{Each, IsFilled, IsRoomy, SendsStrokes, bound_of}
 use Rattle.page_writer.proofs.batches.put_batches.Given as goal
 
@@ -21,8 +22,9 @@ invariant-batches g l = record {
   filled : Each (λ k coder. IsFilled (g.S.Strokes.page l.page) l.behind.run k (g.S.Strokes.page coder.page.now) coder.piece)
       l.behind.coders.items;
   next : bound_of l.behind.run (length l.behind.coders.items) ≡ l.ahead.run.first;
-  sent : SendsStrokes (g.S.Strokes.page l.page) 0 0 l.behind.run.first (g.K.Sink.held l.fn.sink) (g.K.Sink.held l.sink) l.sent;
-  step : vec_capacity l.fn.step ≤ vec_capacity l.step;
+  sent : SendsStrokes (g.S.Strokes.page l.page) 0 0 l.behind.run.first (outlet_of (g.K.Sink.held l.fn.sink) l.fn.waiting.items)
+      (outlet_of (g.K.Sink.held l.sink) l.waiting.items) l.sent;
+  capacity : vec_capacity l.fn.waiting ≤ vec_capacity l.waiting;
   later : g.K.Sink.faults l.fn.sink ≤ g.K.Sink.faults l.sink;
 }
 

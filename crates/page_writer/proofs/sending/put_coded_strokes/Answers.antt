@@ -2,6 +2,7 @@ use Rattle.std.proofs.Common.{◌≡◌, ◌+◌, ◌-◌, arith, subst, sym}
 use Rattle.std.proofs.lemmas.List.{get_or-set_other}
 use Rattle.weave_base.proofs.Parting.{on_err_anyway}
 use Rattle.page_writer.specs.Heads.{HeadPage}
+use Rattle.page_writer.specs.Outlets.{outlet_of}
 use Rattle.page_writer.specs.Pieces.{IsCoded, SendsStrokes}
 use Rattle.page_writer.specs.declared.coded.Coded.{Coded}
 use Rattle.page_writer.specs.declared.coded.Sent.{Sent}
@@ -26,7 +27,8 @@ strokes-preserved g c =
     let page : HeadPage = g.S.Strokes.page c.args.page.now in
     record {
       sent = let P : Sent → Type 0 = SendsStrokes page c.args.last c.args.first (c.strokes.stroke + 1 - c.args.first)
-          (g.K.Sink.held c.args.sink.now) (g.K.Sink.held c.put_coded.new.sink) in
+          (outlet_of (g.K.Sink.held c.args.sink.now) c.args.waiting.now.items)
+          (outlet_of (g.K.Sink.held c.put_coded.new.sink) c.put_coded.new.waiting.items) in
           subst P (sym c.and_then-sent.ensures) (sends_join (omega arith) (omega arith) c.strokes.invariant.sent c.in_ok-one.ensures.ok);
       coded = λ k d low high.
           let other : k ≡ c.strokes.stroke - c.args.first → ⊥ = omega arith in
@@ -34,6 +36,6 @@ strokes-preserved g c =
           subst P (sym (get_or-set_other c.strokes.strokes (c.strokes.stroke - c.args.first) k c.put_coded.new.coded d other))
           (c.strokes.invariant.coded k d (omega arith) high);
       room = each_set _ _ _ _ c.strokes.invariant.room c.in_ok-one.ensures.room;
-      step = omega (arith, c.strokes.invariant.step, c.in_ok-one.ensures.step);
+      capacity = omega (arith, c.strokes.invariant.capacity, c.in_ok-one.ensures.capacity);
       later = omega (arith, c.strokes.invariant.later, c.in_ok-one.ensures.cause.later);
     }

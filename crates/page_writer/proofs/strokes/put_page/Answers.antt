@@ -4,43 +4,28 @@ use Rattle.printer_definitions.specs.Printer.{Printer, row_units}
 use Rattle.weave_base.proofs.Parting.{on_err_anyway}
 use Rattle.page_writer.specs.Heads.{strokes_over}
 use Rattle.page_writer.proofs.Inks.{pass_short, strokes_fit}
-use Rattle.page_writer.proofs.Whole.{all_appended, appends_alone, first_part, last_part, middle_part}
-use Rattle.page_writer.proofs.Whole.{page_is, page_sums, part_alone}
+use Rattle.page_writer.proofs.Whole.{all_written, end_part, page_is, page_sums, strokes_part}
 use Rattle.page_writer.proofs.strokes.put_page.Goals as goal
-
-pub returns-in_err-put_all-clause-part : goal.returns-in_err-put_all-clause-part
-returns-in_err-put_all-clause-part g c =
-    let whole = page_is c.args.page.now.profile.now (g.H.Head.strokes c.args.page.now.head.now) c.args.page.now.planes.now
-    c.sheet_of.ensures.length c.sheet_of.ensures.top c.above.ensures c.sheet_of.ensures.bottom c.requires.rows in
-    on_err_anyway _ (first_part _ _ _ _ _ whole
-    (part_alone c.deref.ensures.value c.requires.empty c.append_prologue.ensures.items c.in_err-put_all.ensures.part))
 
 pub returns-in_err-strokes-clause-part : goal.returns-in_err-strokes-clause-part
 returns-in_err-strokes-clause-part g c =
     let whole = page_is c.args.page.now.profile.now (g.H.Head.strokes c.args.page.now.head.now) c.args.page.now.planes.now
     c.sheet_of.ensures.length c.sheet_of.ensures.top c.above.ensures c.sheet_of.ensures.bottom c.requires.rows in
-    let begun = appends_alone _ _ _ c.deref.ensures.value c.requires.empty c.append_prologue.ensures.items
-    c.in_ok-put_all.ensures.ok in
-    on_err_anyway _ (middle_part _ _ whole begun c.in_err-strokes.ensures.part)
+    on_err_anyway _ (strokes_part _ _ _ whole c.requires.empty c.append_prologue.ensures.items c.in_err-strokes.ensures.part)
 
-pub returns-in_err-put_all-2-clause-part : goal.returns-in_err-put_all-2-clause-part
-returns-in_err-put_all-2-clause-part g c =
+pub returns-in_err-put_end-clause-part : goal.returns-in_err-put_end-clause-part
+returns-in_err-put_end-clause-part g c =
     let whole = page_is c.args.page.now.profile.now (g.H.Head.strokes c.args.page.now.head.now) c.args.page.now.planes.now
     c.sheet_of.ensures.length c.sheet_of.ensures.top c.above.ensures c.sheet_of.ensures.bottom c.requires.rows in
-    let begun = appends_alone _ _ _ c.deref.ensures.value c.requires.empty c.append_prologue.ensures.items
-    c.in_ok-put_all.ensures.ok in
-    on_err_anyway _ (last_part _ _ _ whole begun c.in_ok-strokes.ensures.ok.appends
-    (part_alone c.deref-2.ensures.value c.clear.ensures.items c.append_end.ensures.items c.in_err-put_all-2.ensures.part))
+    on_err_anyway _ (end_part _ _ whole c.requires.empty c.append_prologue.ensures.items c.in_ok-strokes.ensures.ok.gathers
+    c.in_err-put_end.ensures.part)
 
 pub returns-clause-ok : goal.returns-clause-ok
 returns-clause-ok g c =
     let whole = page_is c.args.page.now.profile.now (g.H.Head.strokes c.args.page.now.head.now) c.args.page.now.planes.now
     c.sheet_of.ensures.length c.sheet_of.ensures.top c.above.ensures c.sheet_of.ensures.bottom c.requires.rows in
-    let begun = appends_alone _ _ _ c.deref.ensures.value c.requires.empty c.append_prologue.ensures.items
-    c.in_ok-put_all.ensures.ok in
-    let held = g.K.Sink.held in
-    all_appended (held c.args.sink.now) (held c.put_all.new.k) (held c.put_by_all.new.sink) (held c.put_all-2.new.k) _ _ _ whole begun c.in_ok-strokes.ensures.ok.appends
-    (appends_alone _ _ _ c.deref-2.ensures.value c.clear.ensures.items c.append_end.ensures.items c.in_ok-put_all-2.ensures.ok)
+    all_written _ _ _ whole c.requires.empty c.append_prologue.ensures.items c.in_ok-strokes.ensures.ok.gathers
+    c.in_ok-put_end.ensures.ok
 
 pub returns-clause-sum : goal.returns-clause-sum
 returns-clause-sum g c =
