@@ -1,5 +1,5 @@
 //! Gates that watch the workers, or hold them back.
-use dot_planes::{InkRows, TileAmounts, TileBytes, TileRows};
+use dot_planes::{GatherRoom, InkRows, TileAmounts, TileRows};
 use std::sync::atomic::{AtomicU64, Ordering};
 use tile_shape::{Place, Shape};
 use worker_team::Gate;
@@ -46,11 +46,11 @@ impl TileRows for WatchedRows<'_> {
         TileRows::inks(&self.rows)
     }
 
-    fn gather(&self, place: Place, bytes: &mut TileBytes, out: &mut TileAmounts) {
+    fn gather(&self, place: Place, room: &mut GatherRoom, out: &mut TileAmounts) -> bool {
         if !self.gate.has_entered(place) {
             self.early.fetch_add(1, Ordering::SeqCst);
         }
-        TileRows::gather(&self.rows, place, bytes, out);
+        TileRows::gather(&self.rows, place, room, out)
     }
 }
 

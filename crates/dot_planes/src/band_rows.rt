@@ -5,6 +5,7 @@ ghost use Rattle.base_definitions.specs.Limits.{most_columns, most_row_bytes};
 ghost use Rattle.std.specs.Prelude.{[], false, length, slice_index, slice_index_or, true, ℕ, ◌*◌, ◌+◌, ◌<◌, ◌≡◌, ◌≤◌};
 
 use crate::bit_rows::{row_eight, row_part};
+use crate::counts::are_zero;
 use crate::places::are_bytes;
 use crate::tiles::{NO_DOTS, TileDots};
 use base_definitions::MOST_ROW_BYTES;
@@ -33,18 +34,6 @@ fn tile_row(tile: &TileDots, ink: u8, r: usize) -> &[u8]
     ensures len { length result.now ≡ 8 }
 {
     &tile_ink(tile, ink)[8 * r..8 * r + 8]
-}
-
-// Whether all bytes are 0. The loop has a known length and no test, so that it becomes vectors.
-#[inline(always)]
-fn are_zero(bytes: &[u8; 256]) -> bool
-    ensures { result ≡ true → (k : ℕ) → slice_index bytes.now k ≡ 0 }
-{
-    let mut all = 0;
-    for k in 0..256 {
-        all |= bytes[k];
-    }
-    all == 0
 }
 
 /// Whether no tile has a dot of an ink.

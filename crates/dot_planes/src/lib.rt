@@ -10,13 +10,14 @@
 //! dots of a band of its tiles at once, `put_part` a part of a row of amounts, `copy_row` a row of amounts in all inks.
 //!
 //! `TileBits` holds the dots of one tile, 256 bytes an ink, and `TileAmounts` its amounts, 2048 bytes an ink. `gather`
-//! of `TileRows`, which `InkRows` implements, sets a tile's amounts wherever the rows have a pixel of the tile. A
-//! `Seen` stands for rows in contracts.
+//! of `TileRows`, which `InkRows` implements, sets a tile's amounts wherever the rows have a pixel of the tile, or says
+//! that the tile has no amount. A `Seen` stands for rows in contracts.
 #![tactic(auto)]
 
 mod amounts;
 mod band_rows;
 mod bit_rows;
+mod counts;
 mod eights;
 mod gathered;
 mod ink_rows;
@@ -26,7 +27,7 @@ mod seen;
 mod tile_rows;
 mod tiles;
 
-pub use amounts::{TILE_BYTES, TileAmounts, TileBytes, TileRows};
+pub use amounts::{GatherRoom, TILE_BYTES, TileAmounts, TileRows};
 pub use bit_rows::has_dot;
 pub use ink_rows::InkRows;
 pub use planes::Planes;

@@ -10,9 +10,10 @@ ghost use Rattle.base_definitions.specs.Counting.{count_from};
 mod bands;
 mod laying;
 
+use crate::counts::count_row;
 use crate::places::{reach, row_or_blank, row_start_across};
 use crate::tile_rows::put_dots;
-use base_definitions::{Memory, ones_in};
+use base_definitions::Memory;
 use std::alloc::Global;
 use std::marker::Model;
 use tile_shape::Place;
@@ -168,43 +169,4 @@ fn row_len(width: u32) -> usize
     ensures most { result ≤ most_row_bytes }
 {
     (width as usize + 7) / 8
-}
-
-// The number of dots in a packed row: in words of eight bytes, and in the bytes after them.
-#[inline]
-fn count_row(row: &[u8]) -> u32
-    requires { length row.now ≤ most_row_bytes }
-    ensures is { result ≡ sum_by count_ones row.now }
-    ensures most { result ≤ 8 * most_row_bytes }
-{
-    let (words, rest) = row.split_at(row.len() / 8 * 8);
-    count_words(words) + ones_in(rest)
-}
-
-// The number of dots in whole words of eight bytes.
-#[inline]
-fn count_words(bytes: &[u8]) -> u32
-    requires whole { length bytes.now % 8 ≡ 0 }
-    requires most { length bytes.now ≤ most_row_bytes }
-    ensures is { result ≡ sum_by count_ones bytes.now }
-    ensures most { result ≤ 8 * length bytes.now }
-{
-    let mut dots = 0;
-    'words: for i in 0..bytes.len() / 8 {
-        dots += count_word(&bytes[8 * i..8 * i + 8]);
-    }
-    dots
-}
-
-// The number of dots in eight bytes.
-#[inline]
-fn count_word(word: &[u8]) -> u32
-    requires { length word.now ≡ 8 }
-    ensures is { result ≡ sum_by count_ones word.now }
-    ensures most { result ≤ 64 }
-{
-    let bytes = [
-        word[0], word[1], word[2], word[3], word[4], word[5], word[6], word[7],
-    ];
-    u64::from_le_bytes(bytes).count_ones()
 }

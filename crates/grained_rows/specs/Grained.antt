@@ -1,5 +1,5 @@
 -- Rows of amounts with grain put on.
-use Rattle.std.specs.Prelude.{ℕ, ◌≡◌, ◌+◌, ◌*◌, ◌%◌, ◌<◌, ◌≤◌, ◌⊎◌, List, [], slice_index, slice_index_or}
+use Rattle.std.specs.Prelude.{ℕ, ◌≡◌, ◌+◌, ◌*◌, ◌%◌, ◌<◌, ◌≤◌, List, [], slice_index, slice_index_or}
 use Rattle.dot_planes.specs.Tables.{AmountTable, amount}
 use Rattle.grained_rows.specs.declared.grain.InkGrain.{InkGrain}
 use Rattle.printer_definitions.specs.Inks.{ink_place}
@@ -40,21 +40,15 @@ abbrev pub row_start : ℕ → ℕ → Place → ℕ → ℕ
 row_start number first p r =
     (3166144 * p.c + 32130 * r + 37344 * (first + 32 * p.j + r) + 16384 * number) % 65536
 
--- Row r of a tile has its amounts of an ink with grain, and all others are unchanged. The tile's slab begins at row
--- `first` of the window.
-pub record GrainsRow (g : InkGrain) (ink : Ink) (first : ℕ) (p : Place) (r : ℕ) (old new : List ℕ) : Type 0 where
-  pub pixel : (offset x y : ℕ) → IsAt p r offset x y → slice_index new (64 * r + offset)
-      ≡ grained_by g ink x (first + y) (slice_index old (64 * r + offset))
-  pub others : (n : ℕ) → (n < 64 * r) ⊎ (64 * r + 64 ≤ n) → slice_index new n ≡ slice_index old n
-
--- The first n rows of a tile have their amounts of an ink with grain, and all others are unchanged.
-pub record GrainsRows (g : InkGrain) (ink : Ink) (first : ℕ) (p : Place) (n : ℕ) (old new : List ℕ) : Type 0 where
-  pub pixel : (r offset x y : ℕ) → r < n → IsAt p r offset x y → slice_index new (64 * r + offset)
-      ≡ grained_by g ink x (first + y) (slice_index old (64 * r + offset))
-  pub others : (k : ℕ) → 64 * n ≤ k → slice_index new k ≡ slice_index old k
+-- The first n offsets of a tile have their amounts of an ink with grain, and all others are unchanged. The tile's slab
+-- begins at row `first` of the window.
+pub record GrainsOffsets (g : InkGrain) (ink : Ink) (first : ℕ) (p : Place) (n : ℕ) (old new : List ℕ) : Type 0 where
+  pub pixel : (r offset x y : ℕ) → offset < n → IsAt p r offset x y → slice_index new (32 * offset + r)
+      ≡ grained_by g ink x (first + y) (slice_index old (32 * offset + r))
+  pub others : (k : ℕ) → 32 * n ≤ k → slice_index new k ≡ slice_index old k
 
 -- A tile has its amounts with grain in its first n inks, and the others are unchanged.
 pub record GrainsInks (g : InkGrain) (first : ℕ) (p : Place) (n : ℕ) (old new : List (List ℕ)) : Type 0 where
   pub ink : (i : ℕ) → i < n
-      → GrainsRows g (ink_at g.inks i) first p 32 (slice_index_or old i []) (slice_index_or new i [])
+      → GrainsOffsets g (ink_at g.inks i) first p 64 (slice_index_or old i []) (slice_index_or new i [])
   pub others : (i : ℕ) → n ≤ i → slice_index_or new i [] ≡ slice_index_or old i []

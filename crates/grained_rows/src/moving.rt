@@ -1,7 +1,7 @@
 //! Grain applied to the amounts of a tile.
-ghost use Rattle.grained_rows.specs.Grained.{GrainsInks, GrainsRow, GrainsRows, row_start};
+ghost use Rattle.grained_rows.specs.Grained.{GrainsInks, GrainsOffsets, row_start};
 ghost use Rattle.printer_definitions.specs.Inks.{ink_place, inks_of};
-ghost use Rattle.separation_definitions.specs.Grain.{grained};
+ghost use Rattle.separation_definitions.specs.Grain.{grained, reach};
 ghost use Rattle.std.specs.Prelude.{length, slice_index, ℕ, ◌%◌, ◌*◌, ◌+◌, ◌/◌, ◌<◌, ◌≡◌, ◌≤◌, ◌⊎◌};
 
 use crate::grain::InkGrain;
@@ -9,8 +9,8 @@ use dot_planes::TileAmounts;
 use printer_definitions::Ink;
 use tile_shape::Place;
 
-// How many amounts a row of a tile has.
-const ROW: usize = 64;
+// How many rows a tile has, and amounts at each offset.
+const ROWS: usize = 32;
 
 // How many places the recurrence has.
 const PLACES: u64 = 65536;
@@ -56,6 +56,17 @@ fn start_of(number: u8, first: u32, place: Place, r: usize) -> u16
     ((column + ROW_STEP * y + INK_STEP * u64::from(number)) % PLACES) as u16
 }
 
+// The places where the rows of a tile begin, for the ink of a number.
+fn starts_of(number: u8, first: u32, place: Place) -> [u16; ROWS]
+    ensures { (r : ℕ) → r < 32 → slice_index result r ≡ row_start number first place r }
+{
+    let mut starts = [0; ROWS];
+    for r in 0..ROWS {
+        starts[r] = start_of(number, first, place, r);
+    }
+    starts
+}
+
 // The place of the pixel at an offset of a row that begins at a place.
 #[inline(always)]
 fn place_at(start: u16, offset: usize) -> u16
@@ -65,72 +76,105 @@ fn place_at(start: u16, offset: usize) -> u16
     start.wrapping_add(COLUMN_STEP.wrapping_mul(offset as u16))
 }
 
-// The step of a place, of so many steps. The two halves of the place are multiplied by themselves, since vectors of 16
-// bits are twice as fast as those of 32 bits, which the product of the whole place takes.
+// How far the grain may move an amount.
+#[inline(always)]
+fn reach_of(grain: u8, limit: u8, amount: u8) -> u8
+    ensures { result ≡ reach grain limit amount }
+{
+    grain.min(amount.min(limit.saturating_sub(amount)))
+}
+
+// The step of a place, of the 2 far + 1 steps of an amount that may be moved `far`. The two halves of the place are
+// multiplied by themselves, since vectors of 16 bits are twice as fast as those of 32 bits, which the product of the
+// whole place takes.
 #[inline(always)]
 #[tactic(auto, using(crate::proofs::Steps::halves))]
-fn step_of(place: u16, steps: u16) -> u16
-    requires { steps ≤ 255 }
-    ensures { result ≡ place * steps / 65536 }
+fn step_of(place: u16, far: u8) -> u8
+    requires { far ≤ 127 }
+    ensures { result ≡ place * (2 * far + 1) / 65536 }
 {
-    (place / 256 * steps + place % 256 * steps / 256) / 256
+    let steps = 2 * u16::from(far) + 1;
+    ((place / 256 * steps + place % 256 * steps / 256) / 256) as u8
 }
 
-// An amount with grain, at a place of the recurrence.
+// How far the grain may move each amount at an offset.
 #[inline(always)]
-fn moved(grain: u8, limit: u8, place: u16, amount: u8) -> u8
-    ensures { result ≡ grained grain limit place amount }
+fn reaches_of(grain: u8, limit: u8, amounts: &[u8]) -> [u8; ROWS]
+    requires { length amounts.now ≡ 32 }
+    ensures { (r : ℕ) → r < 32 → slice_index result r ≡ reach grain limit (slice_index amounts.now r) }
 {
-    let far = u16::from(grain.min(amount.min(limit.saturating_sub(amount))));
-    let step = step_of(place, 2 * far + 1);
-    (u16::from(amount) + step - far) as u8
-}
-
-// The amounts of a row with grain, where the row begins at a place. The loop has a known length and no test, so that it
-// becomes vectors.
-#[inline(always)]
-fn moved_row(grain: u8, limit: u8, start: u16, row: &[u8]) -> [u8; ROW]
-    requires { length row.now ≡ 64 }
-    ensures { (o : ℕ) → o < 64 → slice_index result o
-        ≡ grained grain limit ((start + 49471 * o) % 65536) (slice_index row.now o) }
-{
-    let mut amounts = [0; ROW];
-    for o in 0..ROW {
-        amounts[o] = moved(grain, limit, place_at(start, o), row[o]);
+    let mut reaches = [0; ROWS];
+    for r in 0..ROWS {
+        reaches[r] = reach_of(grain, limit, amounts[r]);
     }
-    amounts
+    reaches
 }
 
-// Puts row r of a tile.
+// The step of each amount at an offset, where the rows begin at 32 places.
 #[inline(always)]
-fn put_row(tile: &mut [u8; 2048], r: usize, amounts: &[u8; ROW])
-    requires { r < 32 }
-    ensures there { (o : ℕ) → o < 64 → slice_index tile.new (64 * r + o) ≡ slice_index amounts.now o }
-    ensures others { (n : ℕ) → (n < 64 * r) ⊎ (64 * r + 64 ≤ n) → slice_index tile.new n ≡ slice_index tile.old n }
+fn steps_of(starts: &[u16; ROWS], o: usize, reaches: &[u8; ROWS]) -> [u8; ROWS]
+    requires o { o < 64 }
+    requires reaches { (r : ℕ) → r < 32 → slice_index reaches.now r ≤ 127 }
+    ensures { (r : ℕ) → r < 32 → slice_index result r
+        ≡ ((slice_index starts.now r + 49471 * o) % 65536) * (2 * slice_index reaches.now r + 1) / 65536 }
 {
-    tile[ROW * r..ROW * r + ROW].copy_from_slice(amounts);
+    let mut steps = [0; ROWS];
+    for r in 0..ROWS {
+        steps[r] = step_of(place_at(starts[r], o), reaches[r]);
+    }
+    steps
+}
+
+// The amounts at an offset with grain, where the rows begin at 32 places. This loop and those of the two calls have a
+// known length and no test, so that they become vectors. Two of the three have nothing but bytes: sixteen at a time.
+#[inline(always)]
+fn moved_at(grain: u8, limit: u8, starts: &[u16; ROWS], o: usize, amounts: &[u8]) -> [u8; ROWS]
+    requires o { o < 64 }
+    requires amounts { length amounts.now ≡ 32 }
+    ensures { (r : ℕ) → r < 32 → slice_index result r
+        ≡ grained grain limit ((slice_index starts.now r + 49471 * o) % 65536) (slice_index amounts.now r) }
+{
+    let reaches = reaches_of(grain, limit, amounts);
+    let steps = steps_of(starts, o, &reaches);
+    let mut moved = [0; ROWS];
+    for r in 0..ROWS {
+        moved[r] = amounts[r] - reaches[r] + steps[r];
+    }
+    moved
+}
+
+// Puts the amounts at an offset of a tile.
+#[inline(always)]
+fn put_at(tile: &mut [u8; 2048], o: usize, amounts: &[u8; ROWS])
+    requires { o < 64 }
+    ensures there { (r : ℕ) → r < 32 → slice_index tile.new (32 * o + r) ≡ slice_index amounts.now r }
+    ensures others { (n : ℕ) → (n < 32 * o) ⊎ (32 * o + 32 ≤ n) → slice_index tile.new n ≡ slice_index tile.old n }
+{
+    tile[ROWS * o..ROWS * o + ROWS].copy_from_slice(amounts);
+}
+
+// Puts grain on the amounts at an offset of a tile, whose rows begin at 32 places.
+#[inline(always)]
+fn put_on_offset(grain: u8, limit: u8, starts: &[u16; ROWS], o: usize, tile: &mut [u8; 2048])
+    requires { o < 64 }
+    ensures there { (r : ℕ) → r < 32 → slice_index tile.new (32 * o + r)
+        ≡ grained grain limit ((slice_index starts.now r + 49471 * o) % 65536) (slice_index tile.old (32 * o + r)) }
+    ensures others { (n : ℕ) → (n < 32 * o) ⊎ (32 * o + 32 ≤ n) → slice_index tile.new n ≡ slice_index tile.old n }
+{
+    let amounts = moved_at(grain, limit, starts, o, &tile[ROWS * o..ROWS * o + ROWS]);
+    put_at(tile, o, &amounts);
 }
 
 impl InkGrain {
-    // Puts grain on row r of a tile in one ink.
-    #[inline(always)]
-    fn put_on_row(&self, ink: Ink, first: u32, place: Place, r: usize, tile: &mut [u8; 2048])
-        requires { r < 32 }
-        ensures { GrainsRow self.now ink first place r tile.old tile.new }
+    // Puts grain on a tile in one ink.
+    fn put_on_ink(&self, ink: Ink, first: u32, place: Place, tile: &mut [u8; 2048])
+        ensures { GrainsOffsets self.now ink first place 64 tile.old tile.new }
     {
         let number = number_of(ink);
         let limit = self.limits[usize::from(number)];
-        let start = start_of(number, first, place, r);
-        let amounts = moved_row(self.grain, limit, start, &tile[ROW * r..ROW * r + ROW]);
-        put_row(tile, r, &amounts);
-    }
-
-    // Puts grain on a tile in one ink.
-    fn put_on_ink(&self, ink: Ink, first: u32, place: Place, tile: &mut [u8; 2048])
-        ensures { GrainsRows self.now ink first place 32 tile.old tile.new }
-    {
-        for r in 0..32 {
-            self.put_on_row(ink, first, place, r, tile);
+        let starts = starts_of(number, first, place);
+        for o in 0..64 {
+            put_on_offset(self.grain, limit, &starts, o, tile);
         }
     }
 

@@ -4,7 +4,7 @@ ghost use Rattle.printer_definitions.specs.Inks.{inks_of};
 ghost use Rattle.std.specs.Prelude.{length, ◌≡◌};
 
 use crate::grain::InkGrain;
-use dot_planes::{TileAmounts, TileBytes, TileRows};
+use dot_planes::{GatherRoom, TileAmounts, TileRows};
 use tile_shape::{Place, Shape};
 
 /// Rows of a window with grain applied.
@@ -38,11 +38,15 @@ impl<'a, A: TileRows> TileRows for GrainedRows<'a, A> {
         self.rows.inks()
     }
 
-    fn gather(&self, place: Place, bytes: &mut TileBytes, out: &mut TileAmounts) {
-        self.rows.gather(place, bytes, out);
+    fn gather(&self, place: Place, room: &mut GatherRoom, out: &mut TileAmounts) -> bool {
+        // Grain leaves an amount of 0 as it is.
+        if !self.rows.gather(place, room, out) {
+            return false;
+        }
         // Grain 0 leaves all amounts as they are.
         if self.grain.grain != 0 {
             self.grain.put_on(self.first, place, out);
         }
+        true
     }
 }

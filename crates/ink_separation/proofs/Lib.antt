@@ -6,8 +6,12 @@ pub mod Columns
 pub mod Filled
 pub mod Formulas
 pub mod FourInks
+pub mod FourPlanes
+pub mod Greys
 pub mod Inks
-pub mod OneBit
+pub mod Limits
+pub mod Offsets
 pub mod Riffles
 pub mod Straight
 pub mod TileInks
+pub mod White

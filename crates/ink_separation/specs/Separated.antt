@@ -22,7 +22,3 @@ pub record Separates (p : Printer) (kind : Kind) (line : List ℕ) (w : Window) 
 -- the amount of ink i at an index of a tile
 abbrev pub tile_amount : List (List ℕ) → ℕ → ℕ → ℕ
 tile_amount inks i n = slice_index (slice_index_or inks i []) n
-
--- all amounts before an index of a tile are unchanged
-abbrev pub KeepsBefore : ℕ → List (List ℕ) → List (List ℕ) → Type 0
-KeepsBefore at old new = (i n : ℕ) → n < at → tile_amount new i n ≡ tile_amount old i n

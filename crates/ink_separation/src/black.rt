@@ -3,7 +3,7 @@ ghost use Rattle.printer_profile.specs.Validity.{check};
 ghost use Rattle.separation_definitions.specs.Amounts.{moved_to_black};
 ghost use Rattle.std.specs.Prelude.{IsOk, slice_index, ℕ, ◌<◌, ◌≡◌};
 
-use crate::pixels::{PIXELS, Values};
+use crate::pixels::{PIXELS, Values, high_of};
 use printer_profile::Profile;
 use std::marker::Model;
 
@@ -12,8 +12,11 @@ use std::marker::Model;
 #[derive(Drop)]
 pub struct BlackScale {
     least: u8,
-    // What black takes over for each step above the least darkness, in parts of 2^24: the quotient and one more.
-    scale: u32,
+    // How often the darkness above the least one is doubled: the greatest then has its highest bit.
+    shift: u32,
+    // What black takes over beyond a doubled darkness, for each step of it, in parts of 2^16: the quotient and one
+    // more.
+    beyond: u16,
 }
 
 impl Model for BlackScale {
@@ -34,11 +37,30 @@ impl BlackScale {
         requires { IsOk (check p.now) }
         ensures { result ≡ p.now.black_start }
     {
-        let least = p.black_start;
+        BlackScale::above(p.black_start)
+    }
+
+    // The black generation above a darkness.
+    fn above(least: u8) -> BlackScale
+        requires { least < 255 }
+        ensures { result ≡ least }
+    {
+        let shift = (255 - least).leading_zeros();
+        let greatest = u32::from(255 - least) << shift;
         BlackScale {
             least,
-            scale: 255 * (1 << 24) / (255 - u32::from(least)) + 1,
+            shift,
+            beyond: ((255 - greatest) * 65_536 / greatest + 1) as u16,
         }
+    }
+
+    /// How much of a shared darkness black takes over.
+    #[inline(always)]
+    pub(crate) fn black_at(&self, common: u8) -> u8
+        ensures { result ≡ moved_to_black self.now common }
+    {
+        let above = common.saturating_sub(self.least) << self.shift;
+        above + high_of(u16::from(above), self.beyond) as u8
     }
 
     /// How much of each shared darkness black takes over.
@@ -51,8 +73,7 @@ impl BlackScale {
         }
         let mut black = [0; PIXELS];
         for x in 0..PIXELS {
-            let above = u32::from(common[x].saturating_sub(self.least));
-            black[x] = (above * self.scale >> 24) as u8;
+            black[x] = self.black_at(common[x]);
         }
         black
     }

@@ -13,6 +13,7 @@ mod colours;
 pub mod examples;
 mod given;
 mod pixels;
+mod planes;
 mod quarters;
 mod scales;
 mod separator;

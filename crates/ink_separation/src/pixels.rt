@@ -1,7 +1,7 @@
 //! Values of up to 64 pixels, before they are divided among inks.
 ghost use Rattle.ink_separation.specs.Given.{colour_at};
 ghost use Rattle.separation_definitions.specs.Amounts.{darkness};
-ghost use Rattle.std.specs.Prelude.{length, min, slice_index, ℕ, ◌*◌, ◌+◌, ◌-◌, ◌<◌, ◌≡◌, ◌≤◌};
+ghost use Rattle.std.specs.Prelude.{length, min, slice_index, ℕ, ◌*◌, ◌+◌, ◌-◌, ◌/◌, ◌<◌, ◌≡◌, ◌≤◌};
 
 /// How many pixels are separated at a time.
 pub(crate) const PIXELS: usize = 64;
@@ -37,6 +37,23 @@ pub(crate) fn inverted(bytes: &[u8], many: usize) -> Values
     values
 }
 
+/// The upper half of a product.
+#[inline(always)]
+pub(crate) fn high_of(a: u16, b: u16) -> u16
+    ensures { result ≡ a * b / 65536 }
+{
+    (u32::from(a) * u32::from(b) >> 16) as u16
+}
+
+/// The darkness of a colour as a grey.
+#[inline(always)]
+pub(crate) fn grey_of(red: u8, green: u8, blue: u8) -> u8
+    ensures { result ≡ darkness (record { red = red; green = green; blue = blue }) }
+{
+    let light = 77 * u16::from(red) + 150 * u16::from(green) + 29 * u16::from(blue);
+    255 - (light / 256) as u8
+}
+
 /// The darkness of each of the first `many` pixels of red, green and blue as a grey.
 #[inline]
 pub(crate) fn darkness_of(pixels: &[u8], many: usize) -> Values
@@ -46,10 +63,7 @@ pub(crate) fn darkness_of(pixels: &[u8], many: usize) -> Values
 {
     let mut values = [0; PIXELS];
     for x in 0..many {
-        let red = u16::from(pixels[3 * x]);
-        let green = u16::from(pixels[3 * x + 1]);
-        let blue = u16::from(pixels[3 * x + 2]);
-        values[x] = 255 - ((77 * red + 150 * green + 29 * blue) / 256) as u8;
+        values[x] = grey_of(pixels[3 * x], pixels[3 * x + 1], pixels[3 * x + 2]);
     }
     values
 }

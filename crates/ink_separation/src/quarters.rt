@@ -1,7 +1,7 @@
 //! The four inks of pixels of cyan, magenta, yellow and black, each apart.
 ghost use Rattle.std.specs.Prelude.{length, min, slice_index, ℕ, ◌%◌, ◌*◌, ◌+◌, ◌-◌, ◌/◌, ◌<◌, ◌^◌, ◌≡◌, ◌≤◌};
 
-use crate::pixels::{PIXELS, Values};
+use crate::pixels::{PIXELS, Values, grey_of};
 
 /// The four bytes of each pixel, the first in the lowest eight bits.
 pub(crate) type Fours = [u32; PIXELS];
@@ -69,10 +69,7 @@ pub(crate) fn darkness_left(cyan: &Values, magenta: &Values, yellow: &Values) ->
 {
     let mut values = [0; PIXELS];
     for x in 0..PIXELS {
-        let red = 255 - u16::from(cyan[x]);
-        let green = 255 - u16::from(magenta[x]);
-        let blue = 255 - u16::from(yellow[x]);
-        values[x] = 255 - ((77 * red + 150 * green + 29 * blue) / 256) as u8;
+        values[x] = grey_of(255 - cyan[x], 255 - magenta[x], 255 - yellow[x]);
     }
     values
 }

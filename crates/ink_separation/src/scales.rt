@@ -6,7 +6,8 @@ ghost use Rattle.printer_definitions.specs.declared.inks.Ink.{Ink};
 ghost use Rattle.printer_profile.specs.Validity.{check};
 ghost use Rattle.std.specs.Prelude.{IsOk, [], slice_index, slice_index_or, true, ℕ, ◌*◌, ◌+◌, ◌/◌, ◌<◌, ◌≡◌, ◌≤◌};
 
-use crate::pixels::{PIXELS, Values};
+use crate::pixels::{PIXELS, Values, high_of};
+use crate::planes::Plane;
 use printer_definitions::Ink;
 use printer_profile::{Profile, STRAIGHT_CURVE};
 
@@ -89,6 +90,17 @@ impl Scale {
         }
     }
 
+    /// Scales what the pixels of a tile give.
+    fn scale(&self, plane: &mut Plane)
+        ensures { (n : ℕ) → n < 2048 → slice_index plane.new n ≡ scaled self.now (slice_index plane.old n) }
+    {
+        match self {
+            Scale::Whole => {}
+            Scale::Straight(limit) => limit_all(plane, *limit),
+            Scale::Table(amounts) => look_all_up(plane, amounts),
+        }
+    }
+
     // The amount of a number that is given.
     #[inline(always)]
     fn amount(&self, a: u8) -> u8
@@ -155,6 +167,15 @@ impl Scales {
         self.of(ink).amounts(given)
     }
 
+    /// Makes amounts of an ink of what the pixels of a tile give to it.
+    pub(crate) fn scale(&self, ink: Ink, plane: &mut Plane)
+        ensures { (n : ℕ) → n < 2048 → slice_index plane.new n
+            ≡ tone_on (slice_index_or self.now.curves (ink_place ink) []) (slice_index plane.old n)
+            * slice_index self.now.limits (ink_place ink) / 255 }
+    {
+        self.of(ink).scale(plane);
+    }
+
     /// The amount of an ink for one value that a pixel gives to it.
     #[inline(always)]
     pub(crate) fn amount(&self, ink: Ink, a: u8) -> u8
@@ -210,5 +231,35 @@ fn look_up_sixteen(given: &Values, table: &[u8; 256], first: usize, amounts: &mu
 {
     for x in first..first + 16 {
         amounts[x] = table[usize::from(given[x])];
+    }
+}
+
+// A limit in parts of 2^16, and one part more: its product with an amount has the scaled amount as its upper half.
+fn factor_of(limit: u8) -> u16
+    requires { limit < 255 }
+    ensures { result ≡ limit * 65536 / 255 + 1 }
+{
+    (u32::from(limit) * 65_536 / 255 + 1) as u16
+}
+
+// Scales a tile's amounts by a limit. One multiplication takes the place of a division.
+fn limit_all(plane: &mut Plane, limit: u8)
+    ensures { (n : ℕ) → n < 2048 → slice_index plane.new n ≡ slice_index plane.old n * limit / 255 }
+{
+    if limit == 255 {
+        return;
+    }
+    let factor = factor_of(limit);
+    for n in 0..2048 {
+        plane[n] = high_of(u16::from(plane[n]), factor) as u8;
+    }
+}
+
+// Looks a tile's amounts up in a table.
+fn look_all_up(plane: &mut Plane, table: &[u8; 256])
+    ensures { (n : ℕ) → n < 2048 → slice_index plane.new n ≡ slice_index table.now (slice_index plane.old n) }
+{
+    for n in 0..2048 {
+        plane[n] = table[usize::from(plane[n])];
     }
 }

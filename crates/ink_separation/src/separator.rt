@@ -36,8 +36,8 @@ pub struct Separator {
     pub(crate) kind: Kind,
     window: Window,
     pub(crate) inks: InkSet,
-    black: BlackScale,
-    scales: Scales,
+    pub(crate) black: BlackScale,
+    pub(crate) scales: Scales,
 }
 
 impl Separator {

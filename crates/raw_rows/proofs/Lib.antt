@@ -1,8 +1,13 @@
 pub mod Cells
 pub mod Pixels
-pub mod GatheredTile
 pub mod LinePuts
 pub mod Numbers
 pub mod InkSets
 pub mod Parts
+pub mod TileRows
 pub mod WhiteTiles
+pub mod Squares
+pub mod Columns
+pub mod BitPixels
+pub mod Flags
+pub mod WhiteLines

@@ -1,24 +1,27 @@
 -- Tiles that are white: all their pixels have the same amounts.
-use Rattle.std.proofs.Common.{Bool, IsTrue, ◌↔◌, ℕ, ◌≡◌, ◌+◌, ◌*◌, ◌/◌, ◌%◌, ◌<◌, ◌≤◌, List, [], ◌∷◌, ap, arith, get_or, length, subst, sym, ◌∙◌}
+use Rattle.std.proofs.Common.{Bool, IsTrue, ◌↔◌, ℕ, ◌≡◌, ◌+◌, ◌-◌, ◌*◌, ◌/◌, ◌%◌, ◌<◌, ◌≤◌, List, [], ◌∷◌, ap, arith, get_or, length, subst, sym, ◌∙◌}
+use Rattle.std.proofs.lemmas.Option.{slice_get-get_or}
 use Rattle.base_definitions.specs.Packed.{bit_at, worth}
-use Rattle.dot_planes.specs.Gathered.{HasTile, shape_of}
-use Rattle.dot_planes.specs.Tables.{amount}
+use Rattle.dot_planes.specs.Gathered.{HasNoAmounts, shape_of}
 use Rattle.dot_planes.proofs.PackedRows.{no_bit}
-use Rattle.ink_separation.specs.Separated.{tile_amount}
+use Rattle.ink_separation.specs.Columns.{white_pixel}
 use Rattle.ink_separation.specs.Separators.{printer_in}
 use Rattle.printer_definitions.specs.Inks.{inks_of}
+use Rattle.printer_definitions.specs.declared.inks.Ink.{Ink}
+use Rattle.printer_definitions.specs.declared.inks.Ink.TheVariants.{Black}
 use Rattle.pwg_definitions.specs.Header.{line_bytes, row_of}
 use Rattle.pwg_definitions.specs.declared.pages.Kind.{Kind}
 use Rattle.pwg_definitions.specs.declared.pages.Kind.TheVariants.{Gray8, Black8, Rgb8, Black1, Cmyk8}
 use Rattle.separation_definitions.specs.Amounts.{amount as amount_of, pixel_at}
-use Rattle.tile_shape.specs.Geometry.{HasPixelAt, IsAt, IsPixel, IsWhole}
+use Rattle.tile_shape.specs.Geometry.{IsWhole}
 use Rattle.tile_shape.specs.declared.tiles.Place.{Place}
 use Rattle.tile_shape.proofs.Wholes.{inside_of}
-use Rattle.raw_rows.specs.Gathering.{AreWhiteRows, GathersInks, IsPart, IsWhiteRow, first_pixel, part_bytes}
-use Rattle.raw_rows.specs.Lines.{first_byte, pixels_before, white_byte}
+use Rattle.raw_rows.specs.Gathering.{AreWhiteBand, AreWhiteRows, HasWhitePixels, IsInRow, IsPart, IsWhiteRow, first_pixel, part_bytes}
+use Rattle.raw_rows.specs.Lines.{IsFree, first_byte, pixels_before, white_byte}
 use Rattle.raw_rows.specs.Raw.{ink_at, line_in, table_of}
 use Rattle.raw_rows.specs.declared.kept.RawRows.{RawRows}
 use Rattle.raw_rows.proofs.Cells.{amount_is}
+use Rattle.raw_rows.proofs.TileRows.{in_row_of}
 
 -- the bytes of 64 pixels from pixel x on are white
 abbrev pub AreWhite : Kind → ℕ → List ℕ → Type 0
@@ -41,75 +44,88 @@ pub part_long : (raw : RawRows) (p : Place) (r : ℕ) (kind : Kind) (part : List
 part_long raw p r kind part same long =
     long ∙ ap (λ kind. line_bytes (pixels_before kind (first_pixel raw p r) + 64) (row_of kind).bits_per_pixel) (sym same)
 
--- the numbers of a white pixel
-abbrev white_pixel : Kind → List ℕ
-white_pixel Gray8 = 255 ∷ []
-white_pixel Black8 = 0 ∷ []
-white_pixel Rgb8 = 255 ∷ 255 ∷ 255 ∷ []
-white_pixel Black1 = 0 ∷ []
-white_pixel Cmyk8 = 0 ∷ 0 ∷ 0 ∷ 0 ∷ []
-
 -- a pixel whose bytes are white is white
-pixel_is_white : (kind : Kind) (line : List ℕ) (x k : ℕ) → k < 64
-    → ((n : ℕ) → n < line_bytes (pixels_before kind x + 64) (row_of kind).bits_per_pixel
-    → get_or line (first_byte kind x + n) 0 ≡ white_byte kind)
-    → pixel_at kind line (x + k) ≡ white_pixel kind
-pixel_is_white Gray8 line x k low white = ap (λ b. b ∷ []) (white k (omega arith))
-pixel_is_white Black8 line x k low white = ap (λ b. b ∷ []) (white k (omega arith))
-pixel_is_white Rgb8 line x k low white =
-    let at = λ (d n : ℕ) (is : n ≡ 3 * x + (3 * k + d)) (few : d < 3). ap (λ q. get_or line q 0) is ∙ white (3 * k + d) (omega arith) in
-    let red = at 0 (3 * (x + k)) (omega arith) (omega arith) in
-    let green = at 1 (3 * (x + k) + 1) (omega arith) (omega arith) in
-    let blue = at 2 (3 * (x + k) + 2) (omega arith) (omega arith) in
+white_at : (kind : Kind) (line : List ℕ) (x : ℕ)
+    → ((d : ℕ) → d < (row_of kind).unit → get_or line (first_byte kind x + d) 0 ≡ white_byte kind)
+    → pixel_at kind line x ≡ white_pixel kind
+white_at Gray8 line x white = ap (λ b. b ∷ []) (ap (λ n. get_or line n 0) (let e : x ≡ x + 0 = omega arith in e) ∙ white 0 (omega arith))
+white_at Black8 line x white = ap (λ b. b ∷ []) (ap (λ n. get_or line n 0) (let e : x ≡ x + 0 = omega arith in e) ∙ white 0 (omega arith))
+white_at Rgb8 line x white =
+    let first : 3 * x ≡ 3 * x + 0 = omega arith in
+    let red = ap (λ n. get_or line n 0) first ∙ white 0 (omega arith) in
+    let green = white 1 (omega arith) in
+    let blue = white 2 (omega arith) in
     cc
-pixel_is_white Black1 line x k low white =
-    let place : (x + k) / 8 ≡ x / 8 + (x % 8 + k) / 8 = omega arith in
-    ap (λ b. worth (bit_at b ((x + k) % 8)) 1 ∷ []) (ap (λ q. get_or line q 0) place ∙ white ((x % 8 + k) / 8) (omega arith))
-    ∙ ap (λ b. worth b 1 ∷ []) (no_bit ((x + k) % 8))
-pixel_is_white Cmyk8 line x k low white =
-    let at = λ (d n : ℕ) (is : n ≡ 4 * x + (4 * k + d)) (few : d < 4). ap (λ q. get_or line q 0) is ∙ white (4 * k + d) (omega arith) in
-    let cyan = at 0 (4 * (x + k)) (omega arith) (omega arith) in
-    let magenta = at 1 (4 * (x + k) + 1) (omega arith) (omega arith) in
-    let yellow = at 2 (4 * (x + k) + 2) (omega arith) (omega arith) in
-    let black = at 3 (4 * (x + k) + 3) (omega arith) (omega arith) in
+white_at Black1 line x white =
+    let first : x / 8 ≡ x / 8 + 0 = omega arith in
+    ap (λ b. worth (bit_at b (x % 8)) 1 ∷ []) (ap (λ n. get_or line n 0) first ∙ white 0 (omega arith))
+    ∙ ap (λ b. worth b 1 ∷ []) (no_bit (x % 8))
+white_at Cmyk8 line x white =
+    let first : 4 * x ≡ 4 * x + 0 = omega arith in
+    let cyan = ap (λ n. get_or line n 0) first ∙ white 0 (omega arith) in
+    let magenta = white 1 (omega arith) in
+    let yellow = white 2 (omega arith) in
+    let black = white 3 (omega arith) in
     cc
 
--- the amount of an ink at a white pixel
-abbrev white_amount : RawRows → ℕ → ℕ
-white_amount raw i = amount_of (printer_in raw.separator) raw.separator.kind (white_pixel raw.separator.kind) (ink_at raw.separator.inks i)
+-- the bytes of one of 64 pixels are among the bytes of these
+among : (kind : Kind) (x k d : ℕ) → k < 64 → d < (row_of kind).unit
+    → (first_byte kind x ≤ first_byte kind (x + k) + d)
+    × (first_byte kind (x + k) + d < first_byte kind x + line_bytes (pixels_before kind x + 64) (row_of kind).bits_per_pixel)
+among Gray8 x k d low few = (omega arith, omega arith)
+among Black8 x k d low few = (omega arith, omega arith)
+among Rgb8 x k d low few = (omega arith, omega arith)
+among Black1 x k d low few = (omega arith, omega arith)
+among Cmyk8 x k d low few = (omega arith, omega arith)
 
--- each pixel of a white tile has that amount
-amount_is_white : (raw : RawRows) (p : Place) (i row offset x y : ℕ) → IsWhole (shape_of (table_of raw)) p → AreWhiteRows raw p 32
-    → i < length (inks_of raw.separator.inks) → IsPixel (shape_of (table_of raw)) x y → IsAt p row offset x y
-    → amount (table_of raw) i y x ≡ white_amount raw i
-amount_is_white raw p i row offset x y whole white ink pixel at =
-    let s = raw.separator in
-    let inside = inside_of _ _ whole in
-    let column : s.window.left + x ≡ first_pixel raw p row + offset = omega (arith, inside.left, at.in_band, at.across) in
-    amount_is raw i y x ink pixel.down pixel.across
-    ∙ ap (λ px. amount_of (printer_in s) s.kind px (ink_at s.inks i))
-    (ap (λ n. pixel_at s.kind (line_in raw n) (s.window.left + x)) at.down
-    ∙ ap (λ n. pixel_at s.kind (line_in raw (32 * p.j + row)) n) column
-    ∙ pixel_is_white s.kind (line_in raw (32 * p.j + row)) (first_pixel raw p row) offset at.in_tile (white row at.in_band).byte)
+-- the bytes of a pixel are among those that are kept of a line
+kept_among : (kind : Kind) (pixels x d : ℕ) → x < pixels → d < (row_of kind).unit
+    → first_byte kind x + d < line_bytes pixels (row_of kind).bits_per_pixel
+kept_among Gray8 pixels x d low few = omega arith
+kept_among Black8 pixels x d low few = omega arith
+kept_among Rgb8 pixels x d low few = omega arith
+kept_among Black1 pixels x d low few = omega arith
+kept_among Cmyk8 pixels x d low few = omega arith
 
--- The first n inks have the amount of their first place at every place, and the others are unchanged.
-pub record HasRepeated (n : ℕ) (old new : List (List ℕ)) : Type 0 where
-  pub long : length new ≡ length old
-  pub all : (i k : ℕ) → i < n → k < 2048 → tile_amount new i k ≡ tile_amount old i 0
-  pub others : (i k : ℕ) → n ≤ i → tile_amount new i k ≡ tile_amount old i k
+-- the pixels of a white tile are white
+pub white_tile : (raw : RawRows) (p : Place) → IsWhole (shape_of (table_of raw)) p → AreWhiteRows raw p 32 → HasWhitePixels raw p
+white_tile raw p whole white = record {
+  pixel = λ r offset x low in_row.
+      let s = raw.separator in
+      let first : ℕ = first_pixel raw p r in
+      let inside = inside_of _ _ whole in
+      let column : s.window.left + x ≡ first + offset = omega (arith, inside.left, low, in_row.at) in
+      let line : List ℕ = line_in raw (32 * p.j + r) in
+      ap (λ n. pixel_at s.kind line n) column ∙ white_at s.kind line (first + offset) (λ d few.
+      let span = among s.kind first offset d in_row.in_tile few in
+      let n : ℕ = first_byte s.kind (first + offset) + d - first_byte s.kind first in
+      let place : first_byte s.kind (first + offset) + d ≡ first_byte s.kind first + n = omega (arith, span.0) in
+      ap (λ m. get_or line m 0) place ∙ (white r low).byte n (omega (arith, span.0, span.1)));
+}
 
--- A white tile has its amounts if each place has that of the first pixel.
-pub white_tile : (raw : RawRows) (p : Place) (old first new : List (List ℕ)) → IsWhole (shape_of (table_of raw)) p → AreWhiteRows raw p 32
-    → GathersInks (table_of raw) p 0 old first
-    → ((i n : ℕ) → i < length (inks_of raw.separator.inks) → n < 2048 → tile_amount new i n ≡ tile_amount first i 0)
-    → HasTile (table_of raw) p new
-white_tile raw p old first new whole white gathers repeats = record {
+-- and so are those of a band whose rows are flagged
+pub white_band : (raw : RawRows) (p : Place) → AreWhiteBand raw p.j → HasWhitePixels raw p
+white_band raw p band = record {
+  pixel = λ r offset x low in_row.
+      let s = raw.separator in
+      let line : List ℕ = line_in raw (32 * p.j + r) in
+      let white = raw.flagged (32 * p.j + r) (omega (arith, band.room, low)) (band.row r low) in
+      white_at s.kind line (s.window.left + x) (λ d few.
+      let inside = kept_among s.kind (s.window.left + s.window.width) (s.window.left + x) d (omega (arith, in_row.across)) few in
+      white (first_byte s.kind (s.window.left + x) + d) (omega (arith, inside, raw.long)));
+}
+
+-- white pixels that are free have no amounts
+pub no_amounts : (raw : RawRows) (p : Place) → IsFree raw.separator → HasWhitePixels raw p → HasNoAmounts (table_of raw) p
+no_amounts raw p free white = record {
   ink = λ i low. record {
-    pixel = λ row offset x y few pixel at.
-        let corner : HasPixelAt (shape_of (table_of raw)) p 0 0 = whole.at 0 0 (omega arith) (omega arith) in
-        repeats i (64 * row + offset) low (omega (arith, few, at.in_tile))
-        ∙ (gathers.ink i low).pixel 0 corner.x corner.y corner.pixel corner.place
-        ∙ amount_is_white raw p i 0 0 corner.x corner.y whole white low corner.pixel corner.place
-        ∙ sym (amount_is_white raw p i row offset x y whole white low pixel at);
+    pixel = λ row offset x y pixel at.
+        let s = raw.separator in
+        let ink : Ink = ink_at s.inks i in
+        let in_row : IsInRow raw p row offset x = in_row_of raw p row offset x y pixel at in
+        amount_is raw i y x low pixel.down pixel.across
+        ∙ ap (λ n. amount_of (printer_in s) s.kind (pixel_at s.kind (line_in raw n) (s.window.left + x)) ink) at.down
+        ∙ ap (λ px. amount_of (printer_in s) s.kind px ink) (white.pixel row offset x at.in_band in_row)
+        ∙ free i ink (slice_get-get_or (inks_of s.inks) i Black low);
   };
 }

@@ -1,3 +1,4 @@
 pub mod Lines
 pub mod Raw
 pub mod Gathering
+pub mod Squares

@@ -1,6 +1,12 @@
 -- What is kept of a line, and where.
-use Rattle.std.specs.Prelude.{ℕ, ◌+◌, ◌*◌, ◌/◌, ◌%◌, ◌<◌, ◌≤◌, List, slice_index}
+use Rattle.std.specs.Prelude.{Bool, false, true, ℕ, ◌≡◌, ◌+◌, ◌*◌, ◌/◌, ◌%◌, ◌<◌, ◌≤◌, List, Some, length, slice_get, slice_index, slice_index_or}
 use Rattle.base_definitions.specs.Limits.{most_columns}
+use Rattle.dot_planes.specs.Tables.{row_at}
+use Rattle.ink_separation.specs.Columns.{white_pixel}
+use Rattle.ink_separation.specs.Separators.{printer_in}
+use Rattle.printer_definitions.specs.Inks.{inks_of}
+use Rattle.printer_definitions.specs.declared.inks.Ink.{Ink}
+use Rattle.separation_definitions.specs.Amounts.{amount as amount_of}
 use Rattle.pwg_definitions.specs.Header.{line_bytes, row_of}
 use Rattle.pwg_definitions.specs.declared.pages.Kind.{Kind}
 use Rattle.pwg_definitions.specs.declared.pages.Kind.TheVariants.{Gray8, Black8, Rgb8, Black1, Cmyk8}
@@ -48,3 +54,19 @@ pixels_before Cmyk8 x = 0
 -- the byte of white pixels: each of a white unit
 abbrev pub white_byte : Kind → ℕ
 white_byte kind = slice_index (row_of kind).white 0
+
+-- all bytes of a line are white
+pub record IsWhiteLine (kind : Kind) (line : List ℕ) : Type 0 where
+  pub byte : (k : ℕ) → k < length line → slice_index line k ≡ white_byte kind
+
+-- the line of each row that is flagged is white
+abbrev pub AreWhiteLines : Kind → ℕ → List ℕ → List ℕ → List Bool → Type 0
+AreWhiteLines kind len bytes index white =
+    (y : ℕ) → y < 256 → slice_index_or white y false ≡ true → (k : ℕ) → k < len
+    → slice_index (row_at len bytes (slice_index index y)) k ≡ white_byte kind
+
+-- white pixels have no amount of any ink
+abbrev pub IsFree : Separator → Type 0
+IsFree s =
+    (i : ℕ) (ink : Ink) → slice_get (inks_of s.inks) i ≡ Some ink
+    → amount_of (printer_in s) s.kind (white_pixel s.kind) ink ≡ 0

@@ -10,9 +10,10 @@ ghost use Rattle.pwg_definitions.specs.declared.pages.Kind.{Kind};
 ghost use Rattle.raw_rows.specs.Lines.{IsSlabSize, kept_bytes};
 ghost use Rattle.raw_rows.specs.Raw.{KeepsAbove, Repeats, line_in, table_of};
 ghost use Rattle.separation_definitions.specs.declared.window.Window.{Window};
-ghost use Rattle.std.specs.Prelude.{IfOk, length, slice_index, take, vec_capacity, vec_len, ℕ, ◌*◌, ◌+◌, ◌++◌, ◌<◌, ◌≡◌, ◌≤◌, ◌⊎◌};
+ghost use Rattle.std.specs.Prelude.{IfOk, false, length, slice_index, slice_index_or, take, vec_capacity, vec_len, ℕ, ◌*◌, ◌+◌, ◌++◌, ◌<◌, ◌≡◌, ◌≤◌, ◌⊎◌};
 
 use crate::kept::RawRows;
+use crate::white::is_white_line;
 use base_definitions::Memory;
 use ink_separation::Separator;
 use std::alloc::Global;
@@ -70,6 +71,15 @@ fn number_from(index: &mut [u16; 256], y: usize, n: u16)
     index[y..].fill(n);
 }
 
+// Flags the rows from y on as white, or as not white.
+fn flag_from(white: &mut [bool; 256], y: usize, flag: bool)
+    requires { y < 256 }
+    ensures above { (r : ℕ) → r < y → slice_index_or white.new r false ≡ slice_index_or white.old r false }
+    ensures others { (r : ℕ) → y ≤ r → r < 256 → slice_index_or white.new r false ≡ flag }
+{
+    white[y..].fill(flag);
+}
+
 impl RawRows {
     /// Room for 1 to 256 rows, of 1 to `MOST_COLUMNS` columns. The call allocates the memory for all lines, and touches
     /// the memory of one. The contract does not say what amounts the rows have at first.
@@ -82,12 +92,15 @@ impl RawRows {
         let mut bytes = Vec::with_capacity(alloc, rows as usize * len)?;
         // All rows have one line at first. The memory of each other is touched only when it comes.
         bytes.resize(len, 0)?;
+        let white_is_free = separator.white_is_free();
         Ok(RawRows {
             separator,
             rows,
+            white_is_free,
             len,
             bytes,
             index: [0; 256],
+            white: [false; 256],
         })
     }
 
@@ -120,8 +133,14 @@ impl RawRows {
     {
         let n = self.next_line(y as usize);
         let at = n as usize * self.len;
-        put_last(&mut self.bytes, at, &line[..self.len]);
+        let kept = &line[..self.len];
+        put_last(&mut self.bytes, at, kept);
         number_from(&mut self.index, y as usize, n);
+        flag_from(
+            &mut self.white,
+            y as usize,
+            is_white_line(self.separator.kind(), kept),
+        );
     }
 
     /// Gives row y the line of the row above. The rows above keep their amounts; the rows below may get any.
@@ -133,6 +152,7 @@ impl RawRows {
         ensures line { Repeats (table_of self.old) (table_of self.new) y }
     {
         self.index[y as usize] = self.index[y as usize - 1];
+        self.white[y as usize] = self.white[y as usize - 1];
     }
 
     // The number of a line that is put for row y: it stands behind those of the rows above.

@@ -1,14 +1,13 @@
-//! Tiles whose pixels are all white.
-ghost use Rattle.dot_planes.specs.Gathered.{HasTile, shape_of};
-ghost use Rattle.ink_separation.specs.Separated.{tile_amount};
-ghost use Rattle.printer_definitions.specs.Inks.{inks_of};
-ghost use Rattle.raw_rows.specs.Gathering.{AreWhiteRows, IsWhiteRow};
+//! Lines and tiles whose pixels are all white.
+ghost use Rattle.dot_planes.specs.Gathered.{shape_of};
+ghost use Rattle.raw_rows.specs.Gathering.{AreWhiteBand, AreWhiteRows, HasWhitePixels, IsWhiteRow};
+ghost use Rattle.raw_rows.specs.Lines.{IsWhiteLine};
 ghost use Rattle.raw_rows.specs.Raw.{table_of};
 ghost use Rattle.tile_shape.specs.Geometry.{IsWhole};
-ghost use Rattle.std.specs.Prelude.{IsTrue, length, slice_index, ℕ, ◌<◌, ◌↔◌, ◌≡◌, ◌≤◌};
+ghost use Rattle.std.specs.Prelude.{IsTrue, length, slice_index, true, ℕ, ◌<◌, ◌↔◌, ◌≡◌, ◌≤◌};
 
 use crate::kept::RawRows;
-use dot_planes::TileAmounts;
+use dot_planes::TileRows;
 use pwg_definitions::Kind;
 use tile_shape::Place;
 
@@ -38,12 +37,42 @@ fn are_empty(bytes: &[u8], many: usize) -> bool
     any == 0
 }
 
-// Gives every place the amount of the first.
-#[inline(always)]
-fn repeat_first(amounts: &mut [u8; 2048])
-    ensures { (n : ℕ) → n < 2048 → slice_index amounts.new n ≡ slice_index amounts.old 0 }
+// Whether all bytes are 255. The first 64 that are not end the look.
+fn is_full(bytes: &[u8]) -> bool
+    ensures { result ≡ true → (k : ℕ) → k < length bytes.now → slice_index bytes.now k ≡ 255 }
 {
-    *amounts = [amounts[0]; 2048];
+    let blocks = bytes.len() / 64;
+    for n in 0..blocks {
+        if !are_full(&bytes[64 * n..], 64) {
+            return false;
+        }
+    }
+    let rest = &bytes[64 * blocks..];
+    are_full(rest, rest.len())
+}
+
+// Whether all bytes are 0.
+fn is_empty(bytes: &[u8]) -> bool
+    ensures { result ≡ true → (k : ℕ) → k < length bytes.now → slice_index bytes.now k ≡ 0 }
+{
+    let blocks = bytes.len() / 64;
+    for n in 0..blocks {
+        if !are_empty(&bytes[64 * n..], 64) {
+            return false;
+        }
+    }
+    let rest = &bytes[64 * blocks..];
+    are_empty(rest, rest.len())
+}
+
+/// Whether all bytes of a line are white.
+pub(crate) fn is_white_line(kind: Kind, line: &[u8]) -> bool
+    ensures { result ≡ true → IsWhiteLine kind line.now }
+{
+    match kind {
+        Kind::Gray8 | Kind::Rgb8 => is_full(line),
+        Kind::Black8 | Kind::Black1 | Kind::Cmyk8 => is_empty(line),
+    }
 }
 
 impl RawRows {
@@ -78,23 +107,26 @@ impl RawRows {
         true
     }
 
-    // Gives every place of a tile the amounts of the first.
-    fn repeat_corner(&self, out: &mut TileAmounts)
-        ensures { (i n : ℕ) → i < length (inks_of self.now.separator.inks) → n < 2048
-            → tile_amount out.new.inks i n ≡ tile_amount out.old.inks i 0 }
+    // Whether all rows of a band are flagged as white. The flags are folded, so that the loop becomes vectors. A row
+    // below the last has a flag too: that of the last line that was put.
+    fn has_white_rows(&self, j: u32) -> bool
+        ensures { result ≡ true → AreWhiteBand self.now j }
     {
-        for i in 0..usize::from(self.separator.inks().count()) {
-            repeat_first(&mut out.inks[i]);
+        let first = 32 * j as usize;
+        if first > 224 {
+            return false;
         }
+        let mut all = true;
+        for r in 0..32 {
+            all &= self.white[first + r];
+        }
+        all
     }
 
-    /// Gathers a tile that is white: its first row is separated, and all pixels have the amounts of the first.
-    pub(crate) fn gather_white(&self, place: Place, out: &mut TileAmounts)
-        requires whole { IsWhole (shape_of (table_of self.now)) place }
-        requires white { AreWhiteRows self.now place 32 }
-        ensures { HasTile (table_of self.now) place out.new.inks }
+    /// Whether it is known that a tile's pixels are all white. False says nothing.
+    pub(crate) fn is_blank(&self, place: Place) -> bool
+        ensures { result ≡ true → HasWhitePixels self.now place }
     {
-        self.gather_row(place, 0, out);
-        self.repeat_corner(out);
+        self.has_white_rows(place.j) || self.shape().has_all(place) && self.is_white(place)
     }
 }

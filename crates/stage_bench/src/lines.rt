@@ -3,7 +3,7 @@ ghost use Rattle.printer_profile.specs.Validity.{check};
 ghost use Rattle.std.specs.Prelude.{IsOk};
 
 use crate::stages::PageStage;
-use dot_planes::TileAmounts;
+use dot_planes::{TILE_BYTES, TileAmounts};
 use ink_separation::Separator;
 use printer_profile::Profile;
 use pwg_definitions::PageForm;
@@ -24,7 +24,9 @@ pub struct Lines {
     separator: Separator,
     // How many lines there were.
     lines: u64,
-    // The amounts of the current line's pixels.
+    // The bytes of a tile's pixels, by columns. Which they are does not matter for the time.
+    columns: [u8; TILE_BYTES],
+    // The tile's amounts.
     amounts: TileAmounts,
 }
 
@@ -38,6 +40,7 @@ impl Lines {
             page,
             separator: Separator::make(profile, page.form.kind, page.window),
             lines: 0,
+            columns: [0; TILE_BYTES],
             amounts: TileAmounts::zero(),
         }
     }
@@ -49,16 +52,17 @@ impl Lines {
         }
     }
 
-    // Takes a line. One in the margins is only counted.
+    // Takes a line. One in the margins is only counted. With every 32nd line a band of tiles is separated.
     fn take_once(&mut self, line: &[u8]) {
         let window = self.page.window;
         let top = u64::from(window.top);
         let printed = top <= self.lines && self.lines - top < u64::from(window.height);
         self.lines = self.lines.saturating_add(1);
-        if self.stage == PageStage::Read || !printed {
+        if self.stage == PageStage::Read || !printed || self.lines % 32 != 0 {
             return;
         }
-        separate(&self.separator, line, &mut self.amounts);
+        put_first(&mut self.columns, line);
+        separate_band(&self.separator, &self.columns, &mut self.amounts);
     }
 
     /// How many lines there were.
@@ -67,17 +71,15 @@ impl Lines {
     }
 }
 
-/// Separates a line 64 pixels at a time, as a whole tile takes its rows. Skips the line unless it has the window's
-/// pixels.
-pub fn separate(separator: &Separator, line: &[u8], amounts: &mut TileAmounts) {
-    let left = separator.window().left as usize;
-    let width = separator.window().width as usize;
-    if separator.kind().line_bytes(left + width) > line.len() {
-        return;
+// Puts the first bytes of a line among the columns.
+fn put_first(columns: &mut [u8; TILE_BYTES], line: &[u8]) {
+    let many = line.len().min(TILE_BYTES);
+    columns[..many].copy_from_slice(&line[..many]);
+}
+
+/// Separates as many tiles, of 32 rows of 64 pixels, as the window has whole in a band. All have the same bytes.
+pub fn separate_band(separator: &Separator, columns: &[u8; TILE_BYTES], amounts: &mut TileAmounts) {
+    for _ in 0..separator.window().width / 64 {
+        separator.separate_columns(columns, amounts);
     }
-    let whole = width / 64;
-    for n in 0..whole {
-        separator.separate_into(line, left + 64 * n, 64, 64 * (n % 32), amounts);
-    }
-    separator.separate_into(line, left + 64 * whole, width % 64, 0, amounts);
 }

@@ -2,14 +2,15 @@
 //!
 //!     stage_bench STAGE [profile=NAME] [kernel=NAME] [grain=NUMBER] [workers=NUMBER] < page.pwg
 //!
-//! `read` reads the lines of the first page, and `separate` also separates their inks. `slabs` halftones the page in
-//! slabs as the driver does, by this many workers. `read` and `separate` print the number of lines, `slabs` the number
-//! of dots.
+//! `read` reads the lines of the first page, and `separate` also separates as many tiles of bytes by columns. `slabs`
+//! halftones the page in slabs as the driver does, by this many workers. `read` and `separate` print the number of
+//! lines, `slabs` the number of dots.
 //!
 //! `slab-team` diffuses a slab of 2976 by 256 pseudo-random amounts in the profile's inks by this many workers, and
 //! prints the fewest nanoseconds of twenty runs; `slab-plain` does the same by the plain program. `separate-gray`,
-//! `separate-black`, `separate-rgb`, `separate-black1` and `separate-cmyk` separate 256 lines of 2886 pseudo-random
-//! pixels of that kind, and print the fewest nanoseconds of a hundred runs. These stages read no page.
+//! `separate-black`, `separate-rgb`, `separate-black1` and `separate-cmyk` separate eight bands of 45 tiles of
+//! pseudo-random pixels of that kind, whose bytes stand by columns, and print the fewest nanoseconds of a hundred runs.
+//! These stages read no page.
 //!
 //! Only its safety is proved. Its stored run counts the dots of a small page.
 #![tactic(auto)]

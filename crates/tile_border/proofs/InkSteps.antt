@@ -1,12 +1,12 @@
 -- Ink after ink of a tile.
 use Rattle.std.proofs.Common.{◌≡◌, ◌≢◌, ℕ, ℤ, ◌+◌, ◌<◌, ◌≤◌, List, [], get_or, length, set, length-set, ap, arith, inl, inr, refl, sym, ◌∙◌}
-use Rattle.std.proofs.Common.{subst, get_or-set_other, get_or-set_same}
+use Rattle.std.proofs.Common.{MatchOption, Option, None, Some, subst, get_or-set_other, get_or-set_same}
 use Rattle.std.proofs.lemmas.Bool.{cases_eq}
 use Rattle.std.proofs.lemmas.List.{get_or_read}
 use Rattle.diffusion_definitions.specs.Diffusion.{EachInRange, Errors, Solves}
 use Rattle.diffusion_kernel.specs.Tables.{table_of}
 use Rattle.diffusion_kernel.specs.declared.tables.Kernel.{Kernel}
-use Rattle.dot_planes.specs.Gathered.{HasPixels, HasTile}
+use Rattle.dot_planes.specs.Gathered.{HasNoAmount, HasNoAmounts, HasPixels, HasTile}
 use Rattle.dot_planes.specs.Tables.{AmountTable, amount}
 use Rattle.tile_lanes.specs.Done.{DiffusesInk, IsDone, IsReady, plane_of, plane_with, window_of}
 use Rattle.tile_shape.specs.declared.tiles.Place.{Place}
@@ -111,18 +111,26 @@ pub record IsWritten (at i : ℕ) (xs ys : List (List ℤ)) (old : List ℤ) : T
   pub room : at < length xs
   pub read : old ≡ get_or xs at old
 
--- One ink of a tile is diffused, whose gathered amounts are those of the rows.
-pub diffuses : (k : Kernel) (rows : AmountTable) (p : Place) (i at : ℕ) (s : Shape) (tile : List (List ℕ))
-    {so bo qo sx bx qx : List ℤ} {dx : List ℕ} → s ≡ window_of rows → at ≡ i → i < rows.inks → HasTile rows p tile
-    → ((amount : ℕ → ℕ → ℕ) → HasPixels s amount p (get_or tile at [])
-    → DiffusesInk (table_of k) (plane_with s amount) p so bo qo sx bx qx dx)
+-- What is known of all inks of a tile, as known of one.
+one_ink : {R : Type 0} (rows : AmountTable) (p : Place) (i at : ℕ) (o : Option R) (inks_of : R → List (List ℕ)) → at ≡ i → i < rows.inks
+    → MatchOption o (HasNoAmounts rows p) (λ a. HasTile rows p (inks_of a))
+    → MatchOption o (HasNoAmount (window_of rows) (amount rows i) p) (λ a. HasPixels (window_of rows) (amount rows i) p (get_or (inks_of a) at []))
+one_ink rows p i at None inks_of same low none = none.ink i low
+one_ink rows p i at (Some a) inks_of same low has =
+    let OfInk : ℕ → Type 0 = λ n. HasPixels (window_of rows) (amount rows i) p (get_or (inks_of a) n []) in
+    subst OfInk (sym same) (has.ink i low)
+
+-- One ink of a tile is diffused, whose gathered amounts are those of the rows, or whose rows have none.
+pub diffuses : {R : Type 0} (k : Kernel) (rows : AmountTable) (p : Place) (i at : ℕ) (s : Shape) (o : Option R) (inks_of : R → List (List ℕ))
+    {so bo qo sx bx qx : List ℤ} {dx : List ℕ} → s ≡ window_of rows → at ≡ i → i < rows.inks
+    → MatchOption o (HasNoAmounts rows p) (λ a. HasTile rows p (inks_of a))
+    → ((f : ℕ → ℕ → ℕ) → MatchOption o (HasNoAmount s f p) (λ a. HasPixels s f p (get_or (inks_of a) at []))
+    → DiffusesInk (table_of k) (plane_with s f) p so bo qo sx bx qx dx)
     → DiffusesInk (table_of k) (plane_of rows i) p so bo qo sx bx qx dx
-diffuses k rows p i at s tile {so} {bo} {qo} {sx} {bx} {qx} {dx} is same low has done =
-    let f : ℕ → ℕ → ℕ = amount rows i in
-    let InShape : Shape → Type 0 = λ q. (g : ℕ → ℕ → ℕ) → HasPixels q g p (get_or tile at [])
-    → DiffusesInk (table_of k) (plane_with q g) p so bo qo sx bx qx dx in
-    let OfInk : ℕ → Type 0 = λ n. HasPixels (window_of rows) f p (get_or tile n []) in
-    subst InShape is done f (subst OfInk (sym same) (has.ink i low))
+diffuses k rows p i at s o inks_of {so} {bo} {qo} {sx} {bx} {qx} {dx} is same low has done =
+    let InShape : Shape → Type 0 = λ q. (f : ℕ → ℕ → ℕ) → MatchOption o (HasNoAmount q f p) (λ a. HasPixels q f p (get_or (inks_of a) at []))
+    → DiffusesInk (table_of k) (plane_with q f) p so bo qo sx bx qx dx in
+    subst InShape is done (amount rows i) (one_ink rows p i at o inks_of same low has)
 
 pub works_ink : (k : Kernel) (rows : AmountTable) (p : Place) (i at : ℕ) (s sv b bv q qv : List (List ℤ)) (d : List (List ℕ))
     (sx so bx bo qx qo : List ℤ) (dx : List ℕ)

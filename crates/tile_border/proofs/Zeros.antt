@@ -1,5 +1,5 @@
 -- Edges of no errors.
-use Rattle.std.proofs.Common.{◌≡◌, ℕ, ℤ, pos, ◌<◌, ◌≤◌, List, [], get_or, length, replicate, ap, arith, inl, inr, set, sym, ◌∙◌, subst}
+use Rattle.std.proofs.Common.{◌≡◌, ℕ, ℤ, pos, ◌<◌, List, [], get_or, length, replicate, ap, arith, inl, inr, set, sym, ◌∙◌, subst}
 use Rattle.std.proofs.Common.{get_or-set_other, get_or-set_same, to_z, of_z, w16}
 use Rattle.std.proofs.lemmas.Bool.{cases_eq, cases_lt}
 use Rattle.std.proofs.lemmas.Int.{ints}

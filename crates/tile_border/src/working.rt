@@ -1,23 +1,25 @@
 //! One tile in all its inks.
-ghost use Rattle.dot_planes.specs.Gathered.{HasTile};
-ghost use Rattle.std.specs.Prelude.{◌<◌, ◌≤◌};
+ghost use Rattle.diffusion_definitions.specs.Diffusion.{EachInRange};
+ghost use Rattle.diffusion_kernel.specs.Tables.{table_of};
+ghost use Rattle.dot_planes.specs.Gathered.{HasNoAmount, HasNoAmounts, HasPixels, HasTile};
+ghost use Rattle.std.specs.Prelude.{MatchOption, [], slice_index_or, ◌<◌, ◌≤◌, ℕ};
 ghost use Rattle.tile_border.specs.Given.{IsWorkOf, handed};
 ghost use Rattle.tile_border.specs.Works.{HasInks, WorksInk};
-ghost use Rattle.tile_lanes.specs.Done.{window_of};
+ghost use Rattle.tile_lanes.specs.Done.{DiffusesInk, plane_with, window_of};
 ghost use Rattle.tile_shape.specs.Geometry.{IsTile};
 
 use crate::edges::{BottomEdge, CornerEdge, RightEdge};
 use crate::task::{Done, Task};
 use crate::wholes::ink_is_whole;
 use diffusion_kernel::Kernel;
-use dot_planes::{TILE_BYTES, TileAmounts, TileBits, TileBytes, TileDots, TileRows};
-use tile_lanes::{Field, diffuse_tile};
-use tile_shape::Place;
+use dot_planes::{GatherRoom, TileAmounts, TileBits, TileDots, TileRows};
+use tile_lanes::{Field, diffuse_blank, diffuse_tile};
+use tile_shape::{Place, Shape};
 
 /// Room for what a tile needs while it is worked. A worker keeps one for all its tiles.
 #[derive(Drop)]
 pub struct TileRoom {
-    bytes: TileBytes,
+    gather: GatherRoom,
     amounts: TileAmounts,
     field: Field,
 }
@@ -26,7 +28,7 @@ impl TileRoom {
     /// Room for any number of tiles, one after another.
     pub fn make() -> TileRoom {
         TileRoom {
-            bytes: [0; TILE_BYTES],
+            gather: GatherRoom::zero(),
             amounts: TileAmounts::zero(),
             field: Field::make(),
         }
@@ -49,20 +51,24 @@ pub fn work_in<A: TileRows>(task: Task, rows: &A, kernel: Kernel, room: &mut Til
     requires inks { HasInks (A.table rows.now).inks (handed task) }
     ensures { IsWorkOf kernel (A.table rows.now) task result }
 {
-    rows.gather(task.place, &mut room.bytes, &mut room.amounts);
-    work_inks(task, rows, kernel, &room.amounts, &mut room.field)
+    if rows.gather(task.place, &mut room.gather, &mut room.amounts) {
+        work_inks(task, rows, kernel, Some(&room.amounts), &mut room.field)
+    } else {
+        work_inks(task, rows, kernel, None, &mut room.field)
+    }
 }
 
-// Diffuses a tile whose amounts are gathered.
+// Diffuses a tile whose amounts are gathered, or which has none.
 fn work_inks<A: TileRows>(
     task: Task,
     rows: &A,
     kernel: Kernel,
-    amounts: &TileAmounts,
+    amounts: Option<&TileAmounts>,
     field: &mut Field,
 ) -> Done
     requires tile { IsTile (window_of (A.table rows.now)) task.place }
-    requires gathered { HasTile (A.table rows.now) task.place amounts.now.inks }
+    requires gathered { MatchOption amounts (HasNoAmounts (A.table rows.now) task.place)
+        (λ a. HasTile (A.table rows.now) task.place a.now.inks) }
     requires few { (A.table rows.now).inks ≤ 4 }
     requires inks { HasInks (A.table rows.now).inks (handed task) }
     ensures { IsWorkOf kernel (A.table rows.now) task result }
@@ -98,13 +104,13 @@ fn work_inks<A: TileRows>(
     }
 }
 
-// Diffuses one ink of a tile, whose amounts are gathered: the edges handed in become those handed on, and all other
-// inks stay.
+// Diffuses one ink of a tile whose amounts are gathered, or which has none: the edges handed in become those handed on,
+// and all other inks stay.
 fn work_ink<A: TileRows>(
     kernel: Kernel,
     place: Place,
     rows: &A,
-    amounts: &TileAmounts,
+    amounts: Option<&TileAmounts>,
     ink: u8,
     side: &mut RightEdge,
     bottom: &mut BottomEdge,
@@ -113,7 +119,8 @@ fn work_ink<A: TileRows>(
     field: &mut Field,
 )
     requires tile { IsTile (window_of (A.table rows.now)) place }
-    requires gathered { HasTile (A.table rows.now) place amounts.now.inks }
+    requires gathered { MatchOption amounts (HasNoAmounts (A.table rows.now) place)
+        (λ a. HasTile (A.table rows.now) place a.now.inks) }
     requires few { (A.table rows.now).inks ≤ 4 }
     requires ink { ink < (A.table rows.now).inks }
     requires inks { HasInks (A.table rows.now).inks
@@ -123,15 +130,58 @@ fn work_ink<A: TileRows>(
         (record { side = side.new; bottom = bottom.new; corner = corner.new; bits = bits.new }) }
 {
     let at = usize::from(ink);
-    diffuse_tile(
+    diffuse_ink(
         kernel,
         rows.shape(),
         place,
-        &amounts.inks[at],
+        amounts,
+        at,
         &mut side.inks[at],
         &mut bottom.inks[at],
         &mut corner.inks[at],
         bits.ink_mut(ink),
         field,
     );
+}
+
+// Diffuses one ink of a tile from its gathered amounts, or as a tile that has none.
+fn diffuse_ink(
+    kernel: Kernel,
+    shape: Shape,
+    place: Place,
+    amounts: Option<&TileAmounts>,
+    at: usize,
+    side: &mut [i16; 192],
+    bottom: &mut [i16; 128],
+    corner: &mut [i16; 12],
+    dots: &mut [u8; 256],
+    field: &mut Field,
+)
+    requires tile { IsTile shape place }
+    requires ink { at < 4 }
+    requires side_fits { EachInRange side.old }
+    requires bottom_fits { EachInRange bottom.old }
+    requires corner_fits { EachInRange corner.old }
+    ensures side_fits { EachInRange side.new }
+    ensures bottom_fits { EachInRange bottom.new }
+    ensures corner_fits { EachInRange corner.new }
+    ensures done { (amount : ℕ → ℕ → ℕ) → MatchOption amounts.entry (HasNoAmount shape amount place)
+        (λ a. HasPixels shape amount place (slice_index_or a.now.inks at []))
+        → DiffusesInk (table_of kernel) (plane_with shape amount) place
+        side.old bottom.old corner.old side.new bottom.new corner.new dots.new }
+{
+    match amounts {
+        Some(amounts) => diffuse_tile(
+            kernel,
+            shape,
+            place,
+            &amounts.inks[at],
+            side,
+            bottom,
+            corner,
+            dots,
+            field,
+        ),
+        None => diffuse_blank(kernel, shape, place, side, bottom, corner, dots, field),
+    }
 }

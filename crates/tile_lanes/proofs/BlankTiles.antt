@@ -7,11 +7,11 @@ use Rattle.diffusion_definitions.specs.Diffusion.{Errors, Plane, Solves, error_o
 use Rattle.diffusion_kernel.specs.Tables.{table_of}
 use Rattle.diffusion_kernel.specs.declared.tables.Kernel.{Kernel}
 use Rattle.diffusion_kernel.specs.declared.tables.Kernel.TheVariants.{Floyd, Jarvis, Stucki}
-use Rattle.dot_planes.specs.Gathered.{HasPixels}
+use Rattle.dot_planes.specs.Gathered.{HasNoAmount, HasPixels}
 use Rattle.tile_edges.specs.Edges.{Holds, skewed}
 use Rattle.tile_edges.specs.Reads.{HasError, ReadsAt}
 use Rattle.tile_edges.proofs.AtHand.{at_hand}
-use Rattle.tile_lanes.specs.Blank.{AreZero, IsBlank}
+use Rattle.tile_lanes.specs.Blank.{AreZero, HandsNothing, IsBlank}
 use Rattle.tile_lanes.specs.Done.{IsDone, IsReady, plane_with}
 use Rattle.tile_lanes.specs.Rows.{bit, bit_of, is_place, shown}
 use Rattle.tile_lanes.proofs.RowCells.{five_are, none_right, place_inside, two}
@@ -156,14 +156,14 @@ edge_done kernel p e place first offset q u rows wide edge bare zeros is_q is_u 
 }
 
 -- A tile with nothing to diffuse hands on the edges that it was handed, and has no dot.
-pub blank_done : (kernel : Kernel) (s : Shape) (place : Place) (amount : ℕ → ℕ → ℕ) (e : Errors) (tile dots : List ℕ) (left above corner : List ℤ)
-    → HasPixels s amount place tile → Solves (table_of kernel) (plane_with s amount) e → IsReady e place left above corner
-    → IsBlank tile left above corner → ((m : ℕ) → get_or dots m 0 ≡ 0)
+pub blank_done : (kernel : Kernel) (s : Shape) (place : Place) (amount : ℕ → ℕ → ℕ) (e : Errors) (dots : List ℕ) (left above corner : List ℤ)
+    → HasNoAmount s amount place → Solves (table_of kernel) (plane_with s amount) e → IsReady e place left above corner
+    → HandsNothing left above corner → ((m : ℕ) → get_or dots m 0 ≡ 0)
     → IsDone (table_of kernel) (plane_with s amount) e place left above corner dots
-blank_done kernel s place amount e tile dots left above corner has solves ready blank no_dots = record {
-  has_right = edge_done kernel p e place 0 58 2 (64 * place.c + 64) 32 6 left bare blank.no_left refl (omega arith) (omega arith) (omega arith);
-  has_bottom = edge_done kernel p e place 30 0 32 (64 * place.c + 6) 2 64 above bare blank.no_above refl (omega arith) (omega arith) (omega arith);
-  has_corner = edge_done kernel p e place 30 58 32 (64 * place.c + 64) 2 6 corner bare blank.no_corner refl (omega arith) (omega arith) (omega arith);
+blank_done kernel s place amount e dots left above corner none solves ready nothing no_dots = record {
+  has_right = edge_done kernel p e place 0 58 2 (64 * place.c + 64) 32 6 left bare nothing.no_left refl (omega arith) (omega arith) (omega arith);
+  has_bottom = edge_done kernel p e place 30 0 32 (64 * place.c + 6) 2 64 above bare nothing.no_above refl (omega arith) (omega arith) (omega arith);
+  has_corner = edge_done kernel p e place 30 58 32 (64 * place.c + 64) 2 6 corner bare nothing.no_corner refl (omega arith) (omega arith) (omega arith);
   has_dots = dots_done (table_of kernel) p e place dots (record {
     at = λ r o row small. no_bit dots (64 * r + o) no_dots ∙ sym (ap bit_of (none_shown kernel p e place bare r o row small));
   });
@@ -179,20 +179,34 @@ blank_done kernel s place amount e tile dots left above corner has solves ready 
       above = above;
       corner = corner;
       ready = ready;
-      no_left = blank.no_left;
-      no_above = blank.no_above;
-      no_corner = blank.no_corner;
+      no_left = nothing.no_left;
+      no_above = nothing.no_above;
+      no_corner = nothing.no_corner;
       no_amount = λ r o row small there.
           let inside = place_inside p place.j r (64 * place.c + o) there in
           let from : 2 * r ≤ 64 * place.c + o = inside.from in
-          sym (has.pixel r o (64 * place.c + o - 2 * r) (32 * place.j + r) row
+          none.pixel r o (64 * place.c + o - 2 * r) (32 * place.j + r)
           (record { across = inside.across; down = inside.down })
-          (record { in_band = row; in_tile = small; down = refl; across = omega arith }))
-          ∙ blank.no_amount (64 * r + o) (omega arith);
+          (record { in_band = row; in_tile = small; down = refl; across = omega arith });
     }
+
+-- If all amounts of a tile are 0, no pixel of it has one.
+pub none_of : (s : Shape) (place : Place) (amount : ℕ → ℕ → ℕ) (tile : List ℕ) → HasPixels s amount place tile → IsBlank tile
+    → HasNoAmount s amount place
+none_of s place amount tile has blank = record {
+  pixel = λ row offset x y pixel at.
+      sym (has.pixel row offset x y at.in_band pixel at) ∙ blank (32 * offset + row) (omega (arith, at.in_band, at.in_tile));
+}
 
 -- each number of a list of zeros is 0
 pub zeros_are : (n m : ℕ) → let some : ℕ = get_or (replicate n 0) m 0 in some ≡ 0
 zeros_are zero m = refl
 zeros_are (suc n) zero = refl
 zeros_are (suc n) (suc m) = zeros_are n m
+
+-- If no pixel of a tile has an amount, amounts of 0 are those of the tile.
+pub zeros_have : (s : Shape) (place : Place) (amount : ℕ → ℕ → ℕ) (n : ℕ) → HasNoAmount s amount place
+    → let zeros : List ℕ = replicate n 0 in HasPixels s amount place zeros
+zeros_have s place amount n none = record {
+  pixel = λ row offset x y low pixel at. zeros_are n (32 * offset + row) ∙ sym (none.pixel row offset x y pixel at);
+}

@@ -1,5 +1,5 @@
 -- Amounts by steps.
-use Rattle.std.proofs.Common.{ℕ, ◌+◌, ◌-◌, ◌*◌, ◌∙◌, arith, List}
+use Rattle.std.proofs.Common.{ℕ, arith, List}
 use Rattle.dot_planes.specs.Gathered.{HasPixels}
 use Rattle.tile_lanes.specs.Done.{plane_with}
 use Rattle.tile_lanes.specs.Lanes.{HasAmounts, HasSteps}

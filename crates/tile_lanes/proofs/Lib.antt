@@ -12,7 +12,6 @@ pub mod HeldBlocks
 pub mod PaceCells
 pub mod LaneCells
 pub mod LaneTile
-pub mod Squares
-pub mod LaneSquares
+pub mod LaneOrder
 pub mod BlankTiles
 pub mod ZeroTests

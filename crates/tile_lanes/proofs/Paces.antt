@@ -1,7 +1,6 @@
 -- How rows go in step, and where a field has their errors.
 use Rattle.std.proofs.Common.{ℕ, ◌≡◌, ◌+◌, ◌-◌, ◌<◌, ◌≤◌, arith, refl}
-use Rattle.tile_lanes.specs.Paces.{cell_of, delay_of, first_group, squares_of}
-use Rattle.tile_lanes.specs.Square.{covered}
+use Rattle.tile_lanes.specs.Paces.{cell_of, delay_of, first_group}
 use Rattle.tile_lanes.specs.declared.lanes.pace.Pace.{Pace}
 use Rattle.tile_lanes.specs.declared.lanes.pace.Pace.TheVariants.{Level, Lagging}
 
@@ -9,16 +8,6 @@ use Rattle.tile_lanes.specs.declared.lanes.pace.Pace.TheVariants.{Level, Lagging
 pub delay_up : (pace : Pace) (a b : ℕ) → a ≤ b → delay_of pace a ≤ delay_of pace b
 delay_up Level a b h = omega arith
 delay_up Lagging a b h = h
-
--- the rows of two halves are as far apart
-pub delay_plus : (pace : Pace) (a b : ℕ) → delay_of pace (a + b) ≡ delay_of pace a + delay_of pace b
-delay_plus Level a b = refl
-delay_plus Lagging a b = refl
-
--- all steps of sixteen rows are in their squares
-pub delay_fits : (pace : Pace) → delay_of pace 15 + 64 ≤ covered (squares_of pace)
-delay_fits Level = omega arith
-delay_fits Lagging = omega arith
 
 -- row r of a tile is row r + 2 of its field
 pub group_of : (pace : Pace) (p : ℕ) → 2 ≤ p → first_group pace p ≡ delay_of pace (p - 2) + 2

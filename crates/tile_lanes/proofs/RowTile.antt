@@ -1,5 +1,5 @@
 -- The dots of a tile, row after row.
-use Rattle.std.proofs.Common.{ℕ, ◌==◌, ◌&&◌, true, ◌≡◌, ◌+◌, ◌-◌, ◌*◌, ◌<◌, ◌≤◌, ◌∙◌, Bool, false, ap, arith, List}
+use Rattle.std.proofs.Common.{ℕ, ◌==◌, true, ◌≡◌, ◌+◌, ◌*◌, ◌<◌, Bool, false, ap, arith, List}
 use Rattle.std.proofs.lemmas.Bool.{le-leb, lt-leb}
 use Rattle.diffusion_definitions.specs.Diffusion.{Table, Plane, Errors}
 use Rattle.dot_planes.specs.Tables.{row_dot}

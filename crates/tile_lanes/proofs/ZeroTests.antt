@@ -5,7 +5,7 @@ use Rattle.std.proofs.lemmas.Nat.{le_or_l, le_or_r, or_of_16}
 use Rattle.std.proofs.lemmas.Int.{ints, of_z-to_z}
 use Rattle.std.proofs.lemmas.List.{get_or_past}
 use Rattle.diffusion_definitions.specs.Diffusion.{EachInRange, InRange}
-use Rattle.tile_lanes.specs.Blank.{AreBlankRows, AreZero}
+use Rattle.tile_lanes.specs.Blank.{AreBlankOffsets, AreZero}
 
 -- `any` is 0 if the first n numbers are all 0, and only then.
 pub record IsZeroTest (number : ℕ → ℕ) (n any : ℕ) : Type 0 where
@@ -67,13 +67,13 @@ errors_tested errors n any fits whole few test =
       λ zeros. eq-eqb any 0 (tested.all (λ i small. ap (of_z w16) (zeros i))),
     )
 
--- Two more rows of a tile have no amount.
-pub blank_more : (tile : List ℕ) (n : ℕ) → ((m : ℕ) → m < 128 * n → get_or tile m 0 ≡ 0) → AreBlankRows tile n
+-- Four more offsets of a tile have no amount.
+pub blank_more : (tile : List ℕ) (n : ℕ) → ((m : ℕ) → m < 128 * n → get_or tile m 0 ≡ 0) → AreBlankOffsets tile n
     → (m : ℕ) → m < 128 * (n + 1) → get_or tile m 0 ≡ 0
-blank_more tile n before rows m small = elim (cases_lt m (128 * n)) [
+blank_more tile n before four m small = elim (cases_lt m (128 * n)) [
   | inl earlier ↦ before m earlier
   | inr from ↦
       let i : ℕ = m - 128 * n in
       let here : m ≡ 128 * n + i = omega arith in
-      ap (λ q. get_or tile q 0) here ∙ rows i (omega arith)
+      ap (λ q. get_or tile q 0) here ∙ four i (omega arith)
 ]

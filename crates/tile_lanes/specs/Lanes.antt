@@ -4,7 +4,6 @@ use Rattle.std.specs.Prelude.{ℕ, true, false, ◌≡◌, ◌+◌, ◌-◌, ◌
 use Rattle.diffusion_definitions.specs.Diffusion.{Errors, Plane, Solves, error_of, is_dot}
 use Rattle.diffusion_kernel.specs.Tables.{table_of}
 use Rattle.diffusion_kernel.specs.declared.tables.Kernel.{Kernel}
-use Rattle.dot_planes.specs.Gathered.{HasPixels}
 use Rattle.tile_edges.specs.Edges.{skewed}
 use Rattle.tile_lanes.specs.Done.{plane_with}
 use Rattle.tile_lanes.specs.Held.{error_held, value_in_row}
@@ -19,13 +18,13 @@ pub record HasAmounts (pace : Pace) (p : Plane) (c j n : ℕ) (amounts : List �
   pub at : (r o : ℕ) → r < n → o < 64 → is_place p j r (64 * c + o) ≡ true
       → slice_index amounts (32 * (o + delay_of pace r) + r) ≡ p.amount (32 * j + r) (64 * c + o - 2 * r)
 
--- The amounts of a tile, 64 of each row, by steps.
+-- The amounts of a tile, 32 of each offset, by steps.
 pub record HasSteps (pace : Pace) (tile amounts : List ℕ) : Type 0 where
-  pub at : (r o : ℕ) → r < 32 → o < 64 → slice_index amounts (32 * (o + delay_of pace r) + r) ≡ slice_index tile (64 * r + o)
+  pub at : (r o : ℕ) → r < 32 → o < 64 → slice_index amounts (32 * (o + delay_of pace r) + r) ≡ slice_index tile (32 * o + r)
 
--- Errors solve the rule for amounts that a tile has.
-pub record SolvesTile (kernel : Kernel) (s : Shape) (place : Place) (tile : List ℕ) (amount : ℕ → ℕ → ℕ) (e : Errors) : Type 0 where
-  pub has : HasPixels s amount place tile
+-- Errors solve the rule for amounts that a tile has by steps.
+pub record SolvesSteps (kernel : Kernel) (s : Shape) (place : Place) (amounts : List ℕ) (amount : ℕ → ℕ → ℕ) (e : Errors) : Type 0 where
+  pub has : HasAmounts (pace_of kernel) (plane_with s amount) place.c place.j 32 amounts
   pub solves : Solves (table_of kernel) (plane_with s amount) e
 
 -- The tile has all its pixels.

@@ -3,5 +3,5 @@ pub mod Rows
 pub mod Held
 pub mod Paces
 pub mod Lanes
-pub mod Square
+pub mod Order
 pub mod Blank

@@ -1,6 +1,6 @@
 -- How the rows of a tile go in step. Row r's pixel at offset o is one of step o + r + 8 where rows lag, else of step
 -- o + 8.
-use Rattle.std.specs.Prelude.{ℕ, ◌+◌, ◌*◌, ◌==◌, if◌then◌else◌, slice_index}
+use Rattle.std.specs.Prelude.{ℕ, ◌+◌, ◌-◌, ◌*◌, ◌==◌, if◌then◌else◌, slice_index}
 use Rattle.diffusion_kernel.specs.Tables.{table_of}
 use Rattle.diffusion_kernel.specs.declared.tables.Kernel.{Kernel}
 use Rattle.tile_lanes.specs.declared.lanes.pace.Pace.{Pace}
@@ -20,10 +20,9 @@ abbrev pub end_of : Pace → ℕ
 end_of Level = 72
 end_of Lagging = 103
 
--- how many squares of sixteen steps hold all amounts of sixteen rows
-abbrev pub squares_of : Pace → ℕ
-squares_of Level = 4
-squares_of Lagging = 5
+-- how many amounts all steps of a tile have, 32 each
+abbrev pub amounts_of : Pace → ℕ
+amounts_of pace = 32 * (end_of pace - 8)
 
 -- Row p, counted from two rows above the tile, has its errors from this group of a field on, the one six places left of
 -- the tile first.

@@ -5,26 +5,24 @@
 ghost use Rattle.diffusion_definitions.specs.Diffusion.{EachInRange, Errors};
 ghost use Rattle.diffusion_kernel.specs.Tables.{table_of};
 ghost use Rattle.dot_planes.specs.Gathered.{HasPixels};
-ghost use Rattle.std.specs.Prelude.{true, ℕ, ◌<◌, ◌≡◌, ◌≤◌};
+ghost use Rattle.std.specs.Prelude.{length, true, ℕ, ◌<◌, ◌≡◌, ◌≤◌};
 ghost use Rattle.tile_lanes.specs.Done.{DiffusesInk, plane_with};
 ghost use Rattle.tile_lanes.specs.Held.{HeldInRange};
-ghost use Rattle.tile_lanes.specs.Lanes.{HasBits, IsCleared, IsFilled, IsWhole, SolvesTile};
-ghost use Rattle.tile_lanes.specs.Paces.{end_of, pace_of};
+ghost use Rattle.tile_lanes.specs.Lanes.{HasBits, IsCleared, IsFilled, IsWhole, SolvesSteps};
+ghost use Rattle.tile_lanes.specs.Paces.{amounts_of, end_of, pace_of};
 
 mod edges;
+mod order;
 mod pace;
 mod packing;
-mod squares;
 mod step;
-mod transpose;
 mod value;
 
-use crate::blank::is_blank;
 use diffusion_kernel::Kernel;
 use edges::{put_above, put_corner, put_left, take_bottom, take_lower_corner, take_right};
+use order::{order_by_steps, steps_of};
 use pace::Pace;
 use packing::put_words;
-use squares::order_by_steps;
 use step::{clear_step, diffuse_step};
 use tile_shape::{Place, Shape};
 
@@ -61,28 +59,27 @@ fn clear_missing(
     }
 }
 
-// Diffuses the pixels of a tile whose edges are in the field.
+// Diffuses the pixels of a tile whose edges are in the field, from its amounts by steps.
 #[inline(always)]
 fn diffuse_steps(
     kernel: Kernel,
     shape: Shape,
     place: Place,
-    tile: &[u8; 2048],
-    amounts: &mut [u8; 3072],
+    amounts: &[u8],
     field: &mut [u16; 3502],
     bits: &mut [u8; 256],
 )
-    requires { HeldInRange field.old }
+    requires amounts { amounts_of (pace_of kernel) ≤ length amounts.now }
+    requires field { HeldInRange field.old }
     ensures in_range { HeldInRange field.new }
-    ensures filled { (amount : ℕ → ℕ → ℕ) (e : Errors) → SolvesTile kernel shape place tile.now amount e
+    ensures filled { (amount : ℕ → ℕ → ℕ) (e : Errors) → SolvesSteps kernel shape place amounts.now amount e
         → IsFilled (pace_of kernel) e place.c place.j 8 field.old
         → IsFilled (pace_of kernel) e place.c place.j (end_of (pace_of kernel)) field.new }
-    ensures bits { (amount : ℕ → ℕ → ℕ) (e : Errors) → SolvesTile kernel shape place tile.now amount e
+    ensures bits { (amount : ℕ → ℕ → ℕ) (e : Errors) → SolvesSteps kernel shape place amounts.now amount e
         → IsFilled (pace_of kernel) e place.c place.j 8 field.old
         → HasBits kernel (plane_with shape amount) e place.c place.j (end_of (pace_of kernel)) bits.new }
 {
     let pace = Pace::of(kernel);
-    order_by_steps(pace, tile, amounts);
     let whole = is_whole(shape, place);
     let mut dots = [0u16; 32];
     for step in 8..pace.end() {
@@ -92,8 +89,8 @@ fn diffuse_steps(
     }
 }
 
-/// Diffuses one ink of a tile, as `diffuse_tile` says. The field may hold any errors, and the amounts are room for
-/// those of the tile by steps.
+/// Diffuses one ink of a tile pixel by pixel, as `diffuse_tile` says. The field may hold any errors, and `ordered` is
+/// room for the tile's amounts by steps.
 #[inline(always)]
 pub(crate) fn diffuse_lanes(
     kernel: Kernel,
@@ -105,7 +102,7 @@ pub(crate) fn diffuse_lanes(
     corner: &mut [i16; 12],
     bits: &mut [u8; 256],
     field: &mut [u16; 3502],
-    amounts: &mut [u8; 3072],
+    ordered: &mut [u8; 3072],
 )
     requires side_fits { EachInRange side.old }
     requires bottom_fits { EachInRange bottom.old }
@@ -119,16 +116,13 @@ pub(crate) fn diffuse_lanes(
         → DiffusesInk (table_of kernel) (plane_with shape amount) place
         side.old bottom.old corner.old side.new bottom.new corner.new bits.new }
 {
-    // Then no error arises, and the edges stay 0.
-    if is_blank(tile, side, bottom, corner) {
-        *bits = [0; 256];
-        return;
-    }
     let pace = Pace::of(kernel);
+    order_by_steps(pace, tile, ordered);
+    let amounts = steps_of(pace, tile, ordered);
     put_above(pace, field, bottom);
     put_corner(pace, field, corner);
     put_left(pace, field, side);
-    diffuse_steps(kernel, shape, place, tile, amounts, field, bits);
+    diffuse_steps(kernel, shape, place, amounts, field, bits);
     take_right(pace, field, side);
     take_bottom(pace, field, bottom);
     take_lower_corner(pace, field, corner);

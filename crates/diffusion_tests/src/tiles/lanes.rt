@@ -8,11 +8,11 @@ use crate::checks::same;
 use crate::fills::{amounts, fill_of};
 use base_definitions::MOST_COLUMNS;
 use diffusion_kernel::Kernel;
-use dot_planes::{InkRows, TILE_BYTES, TileAmounts, TileRows};
+use dot_planes::InkRows;
 use plain_diffusion::{Above, Definition};
 use std::alloc::Global;
-use tile_lanes::diffuse_tile;
-use tile_shape::Place;
+use tile_lanes::{diffuse_blank, diffuse_tile};
+use tile_shape::{Place, Shape};
 
 // A block of a tile's errors: from a row and an offset on, row by row, `wide` errors of each.
 #[derive(Clone, Copy)]
@@ -174,6 +174,20 @@ struct Given {
     dots: [u8; 256],
 }
 
+// A tile's amounts by offsets, and 255 where the window has no pixel.
+fn amounts_at(rows: &InkRows, place: Place) -> [u8; 2048] {
+    let mut amounts = [255; 2048];
+    for n in 0..2048 {
+        let (row, offset) = ((n % 32) as i64, (n / 32) as i64);
+        let y = i64::from(place.j).wrapping_mul(32).wrapping_add(row);
+        let left = i64::from(place.c).wrapping_mul(64).wrapping_add(offset);
+        if let Some(amount) = amount_of(rows, left.wrapping_sub(row.wrapping_mul(2)), y) {
+            amounts[n] = amount;
+        }
+    }
+    amounts
+}
+
 // A tile by `diffuse_tile`.
 fn diffused(kernel: Kernel, place: Place, rows: &InkRows, handed: Edges) -> Given
     requires tile { IsTile (window_of rows.now) place }
@@ -183,13 +197,41 @@ fn diffused(kernel: Kernel, place: Place, rows: &InkRows, handed: Edges) -> Give
 {
     let mut edges = handed;
     let mut dots = [255u8; 256];
-    let mut amounts = TileAmounts::zero();
-    rows.gather(place, &mut [0; TILE_BYTES], &mut amounts);
+    let shape = Shape {
+        width: rows.width(),
+        height: rows.rows(),
+    };
     diffuse_tile(
         kernel,
-        rows.shape(),
+        shape,
         place,
-        &amounts.inks[0],
+        &amounts_at(rows, place),
+        &mut edges.side,
+        &mut edges.bottom,
+        &mut edges.corner,
+        &mut dots,
+        &mut tile_lanes::Field::make(),
+    );
+    Given { edges, dots }
+}
+
+// A tile by `diffuse_blank`.
+fn diffused_blank(kernel: Kernel, place: Place, rows: &InkRows, handed: Edges) -> Given
+    requires tile { IsTile (window_of rows.now) place }
+    requires side { EachInRange handed.side }
+    requires bottom { EachInRange handed.bottom }
+    requires corner { EachInRange handed.corner }
+{
+    let mut edges = handed;
+    let mut dots = [255u8; 256];
+    let shape = Shape {
+        width: rows.width(),
+        height: rows.rows(),
+    };
+    diffuse_blank(
+        kernel,
+        shape,
+        place,
         &mut edges.side,
         &mut edges.bottom,
         &mut edges.corner,
@@ -351,6 +393,27 @@ fn tiles_of_every_cut_have_the_errors_and_dots_of_the_rule(rt: HostRuntime) {
     }
 }
 
+// Edges that all have one error.
+fn edges_of(error: i32) -> Edges
+    ensures side { EachInRange result.side }
+    ensures bottom { EachInRange result.bottom }
+    ensures corner { EachInRange result.corner }
+{
+    let mut edges = no_edges();
+    fill_all(&mut edges.side, error);
+    fill_all(&mut edges.bottom, error);
+    fill_all(&mut edges.corner, error);
+    edges
+}
+
+// Whether a tile hands on the errors and dots of the rule.
+fn gives(wanted: &Field, given: &Given) -> bool {
+    wanted.has(RIGHT, &given.edges.side)
+        && wanted.has(BOTTOM, &given.edges.bottom)
+        && wanted.has(LOWER_CORNER, &given.edges.corner)
+        && wanted.dots == given.dots
+}
+
 // Whether a tile of 150 columns and 40 rows, at a place where its edges all have one error, has the errors and dots of
 // the rule. `None` where there is no memory, or no tile.
 fn is_right_at(
@@ -364,17 +427,20 @@ fn is_right_at(
     if !is_tile(&rows, place) {
         return None;
     }
-    let mut edges = no_edges();
-    fill_all(&mut edges.side, error);
-    fill_all(&mut edges.bottom, error);
-    fill_all(&mut edges.corner, error);
+    let edges = edges_of(error);
     let wanted = worked(kernel, place, &rows, &edges);
-    let given = diffused(kernel, place, &rows, edges);
-    let is_right = wanted.has(RIGHT, &given.edges.side)
-        && wanted.has(BOTTOM, &given.edges.bottom)
-        && wanted.has(LOWER_CORNER, &given.edges.corner)
-        && wanted.dots == given.dots;
-    Some(is_right)
+    Some(gives(&wanted, &diffused(kernel, place, &rows, edges)))
+}
+
+// The same of a tile without an amount, by `diffuse_blank`.
+fn is_right_blank(alloc: Global, kernel: Kernel, place: Place, error: i32) -> Option<bool> {
+    let rows = amounts(alloc, Some(0), 150, 1, 0, 40)?;
+    if !is_tile(&rows, place) {
+        return None;
+    }
+    let edges = edges_of(error);
+    let wanted = worked(kernel, place, &rows, &edges);
+    Some(gives(&wanted, &diffused_blank(kernel, place, &rows, edges)))
 }
 
 // A tile's column and band, and the error of all its edges.
@@ -394,6 +460,18 @@ fn the_least_and_greatest_errors_have_the_errors_and_dots_of_the_rule(rt: HostRu
             for &(c, j, error) in &EXTREMES {
                 let found = is_right_at(rt.alloc(), kernel, all, Place { c, j }, error);
                 assert!(rt; found == Some(true), "{kernel:?} of {all:?} at {c}, {j}");
+            }
+        }
+    }
+}
+
+#[test]
+fn blank_tiles_have_the_errors_and_dots_of_the_rule(rt: HostRuntime) {
+    for kernel in [Kernel::Floyd, Kernel::Jarvis, Kernel::Stucki] {
+        for &(c, j, most) in &EXTREMES {
+            for error in [most, 0] {
+                let found = is_right_blank(rt.alloc(), kernel, Place { c, j }, error);
+                assert!(rt; found == Some(true), "{kernel:?} at {c}, {j} below {error}");
             }
         }
     }

@@ -1,6 +1,6 @@
 //! How the rows of a tile go in step, and where a field has their errors.
 ghost use Rattle.std.specs.Prelude.{◌+◌, ◌<◌, ◌≡◌, ◌≤◌};
-ghost use Rattle.tile_lanes.specs.Paces.{cell_of, delay_of, end_of, pace_of, squares_of};
+ghost use Rattle.tile_lanes.specs.Paces.{cell_of, delay_of, end_of, pace_of};
 
 use diffusion_kernel::Kernel;
 
@@ -47,19 +47,6 @@ impl Pace {
         match self {
             Pace::Level => 72,
             Pace::Lagging => 103,
-        }
-    }
-
-    /// How many squares of sixteen steps hold all amounts of sixteen rows.
-    #[inline(always)]
-    pub(crate) fn squares(self) -> usize
-        ensures is { result ≡ squares_of self }
-        ensures least { 4 ≤ result }
-        ensures most { result ≤ 5 }
-    {
-        match self {
-            Pace::Level => 4,
-            Pace::Lagging => 5,
         }
     }
 

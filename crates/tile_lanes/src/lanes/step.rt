@@ -1,5 +1,5 @@
 //! One step of a tile: one pixel of each row. None reads the error of another.
-ghost use Rattle.std.specs.Prelude.{true, false, ◌%◌, ◌*◌, ◌+◌, ◌-◌, ◌<◌, ◌≡◌, ◌≤◌, ℕ};
+ghost use Rattle.std.specs.Prelude.{length, true, false, ◌%◌, ◌*◌, ◌+◌, ◌-◌, ◌<◌, ◌≡◌, ◌≤◌, ℕ};
 ghost use Rattle.tile_lanes.specs.Done.{plane_with};
 ghost use Rattle.tile_lanes.specs.Held.{HeldInRange, IsHeld, same_in, same_of, up1_in, up1_of, up2_in, up2_of};
 ghost use Rattle.tile_lanes.specs.Lanes.{AreCleared, IsCleared, IsStep};
@@ -80,7 +80,7 @@ fn entered(all: bool, step: usize, delay: usize, error: u16, before: u16) -> u16
 fn diffuse_rows(
     all: bool,
     kernel: Kernel,
-    amounts: &[u8; 3072],
+    amounts: &[u8],
     field: &mut [u16; 3502],
     dots: &mut [u16; 32],
     step: usize,
@@ -89,6 +89,7 @@ fn diffuse_rows(
     requires low { 8 ≤ step }
     requires high { step < 103 }
     requires first { first ≤ 16 }
+    requires amounts { 32 * (step - 8) + 32 ≤ length amounts.now }
     requires all { all ≡ true → delay_of (pace_of kernel) (first + 15) + 8 ≤ step }
     requires in_range { HeldInRange field.old }
     ensures in_range { HeldInRange field.new }
@@ -109,7 +110,7 @@ fn diffuse_rows(
 #[inline(always)]
 fn diffuse_half(
     kernel: Kernel,
-    amounts: &[u8; 3072],
+    amounts: &[u8],
     field: &mut [u16; 3502],
     dots: &mut [u16; 32],
     step: usize,
@@ -118,6 +119,7 @@ fn diffuse_half(
     requires low { 8 ≤ step }
     requires high { step < 103 }
     requires first { first ≤ 16 }
+    requires amounts { 32 * (step - 8) + 32 ≤ length amounts.now }
     requires in_range { HeldInRange field.old }
     ensures in_range { HeldInRange field.new }
     ensures step { IsStep kernel amounts.now step first 16 field.old dots.old field.new dots.new }
@@ -135,13 +137,14 @@ fn diffuse_half(
 #[inline(always)]
 pub(crate) fn diffuse_step(
     kernel: Kernel,
-    amounts: &[u8; 3072],
+    amounts: &[u8],
     field: &mut [u16; 3502],
     dots: &mut [u16; 32],
     step: usize,
 )
     requires low { 8 ≤ step }
     requires high { step < 103 }
+    requires amounts { 32 * (step - 8) + 32 ≤ length amounts.now }
     requires in_range { HeldInRange field.old }
     ensures in_range { HeldInRange field.new }
     ensures step { IsStep kernel amounts.now step 0 32 field.old dots.old field.new dots.new }

@@ -1,21 +1,20 @@
 use Rattle.std.proofs.Common.{subst, sym}
-use Rattle.tile_lanes.specs.Lanes.{IsFilled, SolvesTile}
+use Rattle.tile_lanes.specs.Lanes.{HasAmounts, IsFilled, SolvesSteps}
 use Rattle.tile_lanes.specs.Paces.{end_of}
-use Rattle.tile_lanes.proofs.BlankTiles.{blank_done, zeros_are}
+use Rattle.tile_lanes.specs.Done.{plane_with}
+use Rattle.tile_lanes.proofs.LaneAmounts.{steps_have}
 use Rattle.tile_lanes.proofs.LaneTile.{all_bits, bottom_of, corner_of, loaded_above, loaded_left, right_of}
 use Rattle.tile_lanes.proofs.RowTile.{dots_done}
 use Rattle.tile_lanes.proofs.lanes.diffuse_lanes.Goals as goal
-
-pub returns-then-is_blank-clause-done : goal.returns-then-is_blank-clause-done
-returns-then-is_blank-clause-done c = λ f has e s ready.
-    blank_done c.args.kernel c.args.shape c.args.place f e c.args.tile.now _ _ _ _ has s ready
-    (c.is_blank.ensures.0 c.if-is_blank.true) (zeros_are 256)
 
 pub returns-clause-done : goal.returns-clause-done
 returns-clause-done c = λ f has e s ready.
     let place = c.args.place in
     let pace = c.of-pace.result in
-    let solves : SolvesTile c.args.kernel c.args.shape place c.args.tile.now f e = record { has = has; solves = s } in
+    let amounts = c.steps_of-amounts.result.now in
+    let have = subst (λ q. HasAmounts q (plane_with c.args.shape f) place.c place.j 32 amounts) c.of-pace.ensures
+    (steps_have pace c.args.shape f place c.args.tile.now amounts has c.steps_of-amounts.ensures.steps) in
+    let solves : SolvesSteps c.args.kernel c.args.shape place amounts f e = record { has = have; solves = s } in
     let start = loaded_above pace e place.c place.j _ _ _ _ c.put_above.ensures.there c.put_corner.ensures.there
     c.put_corner.ensures.kept ready.has_above ready.has_corner in
     let left = loaded_left pace e place.c place.j _ _ _ start ready.has_left c.put_left.ensures.there

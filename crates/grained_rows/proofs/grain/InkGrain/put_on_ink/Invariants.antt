@@ -1,5 +1,5 @@
-use Rattle.grained_rows.specs.Grained.{GrainsRows}
+use Rattle.grained_rows.specs.Grained.{GrainsOffsets}
 use Rattle.grained_rows.proofs.grain.InkGrain.put_on_ink.Given as goal
 
-abbrev pub invariant-loop-r : goal.invariant-loop-r
-invariant-loop-r l = GrainsRows l.self l.ink l.first l.place l.r l.fn.tile l.tile
+abbrev pub invariant-loop-o : goal.invariant-loop-o
+invariant-loop-o l = GrainsOffsets l.self l.fn.ink l.first l.fn.place l.o l.fn.tile l.tile

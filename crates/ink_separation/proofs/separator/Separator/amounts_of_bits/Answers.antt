@@ -1,7 +1,7 @@
 use Rattle.std.proofs.Common.{◌∙◌, ap, inl, inr, sym}
 use Rattle.separation_definitions.specs.Amounts.{grey_ink}
 use Rattle.ink_separation.specs.Separators.{amount_in}
-use Rattle.ink_separation.proofs.OneBit.{white_gives}
+use Rattle.ink_separation.proofs.Greys.{white_gives}
 use Rattle.ink_separation.proofs.separator.Separator.amounts_of_bits.Goals as goal
 
 pub returns : goal.returns

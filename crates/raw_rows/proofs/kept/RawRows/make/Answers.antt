@@ -1,4 +1,6 @@
-use Rattle.std.proofs.Common.{◌*◌, ap, arith}
+use Rattle.std.proofs.Common.{◌*◌, ap, arith, false, sym, ◌∙◌}
+use Rattle.std.proofs.lemmas.Bool.{false≢true}
+use Rattle.std.proofs.lemmas.List.{get_or-replicate}
 use Rattle.dot_planes.proofs.RowBytes.{zero_at}
 use Rattle.raw_rows.proofs.kept.RawRows.make.Goals as goal
 
@@ -10,4 +12,6 @@ invariant_of-result c = record {
   there = λ y. omega (arith, ap (λ n. n * c.bytes_of-len.result) (zero_at 256 y), c.in_ok-resize.ensures.len);
   earlier = λ y. omega (arith, zero_at 256 y);
   in_order = λ r y order low. omega (arith, zero_at 256 r);
+  free = c.white_is_free-white_is_free.ensures;
+  flagged = λ y low is. absurd (false≢true (sym (get_or-replicate 256 y false false low) ∙ is));
 }

@@ -1,7 +1,10 @@
-use Rattle.std.proofs.Common.{ℕ, List, ap, arith, get_or, length-take, refl, take, ◌∙◌}
+use Rattle.std.proofs.Common.{ℕ, List, ap, arith, get_or, length-take, refl, sym, take, ◌∙◌}
+use Rattle.std.proofs.lemmas.List.{get_or-take}
 use Rattle.dot_planes.specs.Tables.{row_at}
+use Rattle.raw_rows.proofs.Flags.{put_flags}
 use Rattle.raw_rows.proofs.LinePuts.{has_line, keeps, kept_line, last_line}
 use Rattle.raw_rows.proofs.Numbers.{IsPut, still_earlier, still_in_order, still_there}
+use Rattle.raw_rows.specs.Lines.{white_byte}
 use Rattle.raw_rows.proofs.kept.RawRows.put_line.Goals as goal
 
 pub invariant_of-self : goal.invariant_of-self
@@ -24,6 +27,14 @@ invariant_of-self c =
       there = λ r. omega (arith, still_there raw.index index y n raw.len put r, c.put_last.ensures.len, length-take raw.len line, raw.long, c.requires.line);
       earlier = still_earlier raw.index index y n put raw.earlier c.next_line-n.ensures.most;
       in_order = still_in_order raw.index index y n put (omega (arith, c.requires.y, raw.size.most_rows)) raw.in_order;
+      free = raw.free;
+      flagged = put_flags raw.separator.kind raw.len y n c.is_white_line.result raw.bytes.items c.put_last.new.bytes.items line
+          raw.index index raw.white c.flag_from.new.white put (omega (arith, c.next_line-n.ensures.behind))
+          (omega (arith, raw.long, c.requires.line)) c.put_last.ensures.items c.flag_from.ensures.above c.flag_from.ensures.others
+          (λ white k low. sym (get_or-take raw.len line k 0 low)
+          ∙ (c.is_white_line.ensures white).byte k (omega (arith, raw.long, c.requires.line, length-take raw.len line, low))
+          ∙ ap white_byte c.kind.ensures)
+          raw.flagged;
     }
 
 pub returns-clause-line : goal.returns-clause-line

@@ -1,4 +1,4 @@
-use Rattle.std.proofs.Common.{ℕ, ◌≡◌, arith, ◌%◌, ◌*◌, ◌+◌, ◌/◌}
+use Rattle.std.proofs.Common.{ℕ, arith, ◌%◌, ◌*◌, ◌+◌, ◌/◌}
 use Rattle.tile_lanes.specs.Paces.{cell_of}
 use Rattle.tile_lanes.specs.declared.lanes.pace.Pace.{Pace}
 use Rattle.tile_lanes.proofs.HeldBlocks.{IsPut, none_put}

@@ -1,5 +1,5 @@
 use Rattle.std.proofs.lemmas.Grind.{common_steps}
-use Rattle.std.proofs.Common.{ℕ, ◌≡◌, arith, ◌%◌, ◌*◌, ◌+◌, ◌/◌}
+use Rattle.std.proofs.Common.{ℕ, arith, ◌%◌, ◌*◌, ◌+◌, ◌/◌}
 use Rattle.tile_lanes.specs.Paces.{cell_of}
 use Rattle.tile_lanes.specs.declared.lanes.pace.Pace.{Pace}
 use Rattle.tile_lanes.proofs.HeldBlocks.{none_taken, taken_in_range}

@@ -1,4 +1,4 @@
-use Rattle.std.proofs.Common.{◌≡◌, ◌+◌, ◌-◌, ◌*◌, ◌/◌, arith}
+use Rattle.std.proofs.Common.{arith}
 use Rattle.tile_lanes.proofs.LaneBits.{word_is}
 use Rattle.tile_lanes.proofs.lanes.packing.put_word.Goals as goal
 

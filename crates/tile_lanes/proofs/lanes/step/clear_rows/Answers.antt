@@ -1,4 +1,4 @@
-use Rattle.std.proofs.Common.{ℕ, ◌<◌, ◌+◌, ◌*◌, ◌∙◌, arith, length-set}
+use Rattle.std.proofs.Common.{arith, length-set}
 use Rattle.tile_lanes.proofs.LaneClears.{cleared_more, none_cleared}
 use Rattle.tile_lanes.proofs.LaneSteps.{held_more}
 use Rattle.tile_lanes.proofs.lanes.step.clear_rows.Goals as goal

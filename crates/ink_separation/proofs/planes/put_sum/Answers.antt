@@ -1,0 +1,10 @@
+use Rattle.std.proofs.Common.{◌+◌, ◌-◌, ◌*◌, ◌∙◌, arith, get_or, length-set, min, refl}
+use Rattle.ink_separation.proofs.Offsets.{rows_more}
+use Rattle.ink_separation.proofs.planes.put_sum.Goals as goal
+
+pub loop-r-preserved : goal.loop-r-preserved
+loop-r-preserved c = record {
+  len = length-set c.loop-r.plane _ _ ∙ c.loop-r.invariant.len;
+  puts = rows_more (λ o r. min 255 (get_or c.args.columns.now (32 * (4 * o + c.args.place) + r) 0 + get_or c.args.columns.now (32 * (4 * o + 3) + r) 0))
+      c.args.o c.loop-r.r _ c.args.plane.now c.loop-r.plane (omega (arith, c.loop-r.invariant.len)) (omega (arith, c.saturating_add.ensures)) c.loop-r.invariant.puts;
+}

@@ -1,5 +1,0 @@
-use Rattle.job_lister.proofs.RasterDots.{CountSoFar}
-use Rattle.job_lister.proofs.dots.raster_dots.Given as goal
-
-abbrev pub invariant-loop-i : goal.invariant-loop-i
-invariant-loop-i l = CountSoFar l.header l.rows l.i l.sum
