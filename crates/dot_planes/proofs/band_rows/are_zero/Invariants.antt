@@ -1,7 +1,0 @@
-use Rattle.std.proofs.Common.{◌≡◌, ℕ, ◌<◌, get_or}
-use Rattle.dot_planes.proofs.band_rows.are_zero.Given as goal
-
-abbrev pub invariant-loop-k : goal.invariant-loop-k
-invariant-loop-k l = record {
-  zero : l.all ≡ 0 → (i : ℕ) → i < l.k → get_or l.bytes i 0 ≡ 0;
-}

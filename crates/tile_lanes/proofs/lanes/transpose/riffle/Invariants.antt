@@ -1,9 +1,0 @@
-use Rattle.std.proofs.Common.{ℕ, ◌≡◌, ◌+◌, ◌*◌, ◌/◌, ◌%◌, ◌<◌}
-use Rattle.tile_lanes.specs.Square.{IsSquare, lane}
-use Rattle.tile_lanes.proofs.lanes.transpose.riffle.Given as goal
-
-abbrev pub invariant-loop-i : goal.invariant-loop-i
-invariant-loop-i l = record {
-  square : IsSquare l.y;
-  lanes : (i m : ℕ) → i < 2 * l.i → m < 16 → lane l.y i m ≡ lane l.x (i / 2 + 8 * (m % 2)) (8 * (i % 2) + m / 2);
-}
