@@ -1,5 +1,5 @@
 -- Pixels of a part of a line.
-use Rattle.std.proofs.Common.{◌≡◌, ℕ, ◌+◌, ◌*◌, ◌/◌, ◌%◌, ◌<◌, ◌≤◌, List, [], ◌∷◌, get_or, ◌∙◌, ◌-◌, arith, drop}
+use Rattle.std.proofs.Common.{◌≡◌, ℕ, ◌+◌, ◌*◌, ◌/◌, ◌%◌, ◌<◌, ◌≤◌, List, get_or, ◌∙◌, ◌-◌, arith, drop}
 use Rattle.std.proofs.Common.{length, take}
 use Rattle.std.proofs.lemmas.List.{get_or-drop, get_or-take}
 use Rattle.pwg_definitions.specs.declared.pages.Kind.{Kind}

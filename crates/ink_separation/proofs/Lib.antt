@@ -6,10 +6,8 @@ pub mod Columns
 pub mod Filled
 pub mod Formulas
 pub mod FourInks
-pub mod FourPlanes
 pub mod Greys
 pub mod Inks
-pub mod Limits
 pub mod Offsets
 pub mod Riffles
 pub mod Straight

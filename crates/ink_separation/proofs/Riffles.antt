@@ -1,5 +1,5 @@
 -- Bytes that are riffled: 96 places, of which the even ones take the first half.
-use Rattle.std.proofs.Common.{◌≡◌, ℕ, ◌+◌, ◌*◌, ◌/◌, ◌%◌, ◌<◌, ◌∙◌, arith}
+use Rattle.std.proofs.Common.{◌≡◌, ℕ, ◌+◌, ◌*◌, ◌/◌, ◌%◌, ◌<◌, arith}
 
 -- where the byte of a place comes from
 abbrev pub next_place : ℕ → ℕ

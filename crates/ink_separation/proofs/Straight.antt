@@ -1,5 +1,5 @@
 -- The curve that leaves each amount as it is.
-use Rattle.std.proofs.Common.{◌≡◌, ℕ, zero, suc, ◌+◌, ◌-◌, ◌*◌, ◌/◌, ◌%◌, ◌<◌, ◌≤◌, get_or, refl, arith, ◌∙◌}
+use Rattle.std.proofs.Common.{◌≡◌, ℕ, zero, suc, ◌*◌, ◌<◌, ◌≤◌, get_or, refl, arith}
 use Rattle.printer_definitions.specs.Printer.{straight_curve, tone_on}
 
 -- its points are 16 apart

@@ -1,5 +1,5 @@
 -- What white pixels give to inks.
-use Rattle.std.proofs.Common.{◌≡◌, ℕ, ◌-◌, refl, arith}
+use Rattle.std.proofs.Common.{◌≡◌, ℕ, refl, arith}
 use Rattle.printer_definitions.specs.Printer.{Printer}
 use Rattle.printer_definitions.specs.declared.inks.Ink.{Ink}
 use Rattle.printer_definitions.specs.declared.inks.Ink.TheVariants.{Black, Cyan, Magenta, Yellow}

@@ -1,6 +1,6 @@
 -- Printers and pixels of the examples.
 use Rattle.std.specs.Prelude.{ℕ, List, [], ◌∷◌}
-use Rattle.printer_definitions.specs.declared.inks.Ink.{Ink}
+use Rattle.std.specs.List.{range_with_len}
 use Rattle.printer_definitions.specs.declared.inks.Ink.TheVariants.{Black, Cyan, Magenta, Yellow}
 use Rattle.printer_definitions.specs.declared.inks.InkSet.{InkSet}
 use Rattle.printer_definitions.specs.Printer.{Printer, straight_curve, tiny1}
@@ -24,3 +24,7 @@ abbrev pub amounts_by : InkSet → Kind → List ℕ → List ℕ
 amounts_by inks kind pixel =
     let p : Printer = record tiny1 { inks = inks } in
     amount p kind pixel Black ∷ amount p kind pixel Cyan ∷ amount p kind pixel Magenta ∷ amount p kind pixel Yellow ∷ []
+
+-- the numbers from 1 to 256
+abbrev pub numbered : List ℕ
+numbered = range_with_len 1 256

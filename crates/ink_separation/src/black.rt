@@ -12,11 +12,10 @@ use std::marker::Model;
 #[derive(Drop)]
 pub struct BlackScale {
     least: u8,
-    // How often the darkness above the least one is doubled: the greatest then has its highest bit.
-    shift: u32,
-    // What black takes over beyond a doubled darkness, for each step of it, in parts of 2^16: the quotient and one
-    // more.
-    beyond: u16,
+    // What black takes over for each step above the least darkness: the whole part, and the rest in parts of 2^16, with
+    // one part more.
+    whole: u16,
+    rest: u16,
 }
 
 impl Model for BlackScale {
@@ -45,12 +44,11 @@ impl BlackScale {
         requires { least < 255 }
         ensures { result ≡ least }
     {
-        let shift = (255 - least).leading_zeros();
-        let greatest = u32::from(255 - least) << shift;
+        let most = 255 - u32::from(least);
         BlackScale {
             least,
-            shift,
-            beyond: ((255 - greatest) * 65_536 / greatest + 1) as u16,
+            whole: (255 / most) as u16,
+            rest: (255 % most * 65_536 / most + 1) as u16,
         }
     }
 
@@ -59,8 +57,9 @@ impl BlackScale {
     pub(crate) fn black_at(&self, common: u8) -> u8
         ensures { result ≡ moved_to_black self.now common }
     {
-        let above = common.saturating_sub(self.least) << self.shift;
-        above + high_of(u16::from(above), self.beyond) as u8
+        let above = u16::from(common.saturating_sub(self.least));
+        // The minimum changes nothing, and keeps the vectors in lanes of 16 bits.
+        (above * self.whole + high_of(above, self.rest)).min(255) as u8
     }
 
     /// How much of each shared darkness black takes over.

@@ -1,9 +1,10 @@
 //! Amounts worked by hand: each function does nothing, and the checker computes its contract.
-ghost use Rattle.ink_separation.specs.Examples.{amounts_by, half_curve, light_printer};
+ghost use Rattle.ink_separation.specs.Columns.{pixel_in};
+ghost use Rattle.ink_separation.specs.Examples.{amounts_by, half_curve, light_printer, numbered};
 ghost use Rattle.printer_definitions.specs.Printer.{tone_on};
 ghost use Rattle.printer_definitions.specs.declared.inks.Ink.TheVariants.{Black};
 ghost use Rattle.printer_definitions.specs.declared.inks.InkSet.TheVariants as inks;
-ghost use Rattle.pwg_definitions.specs.declared.pages.Kind.TheVariants.{Black1, Black8, Cmyk8, Gray8};
+ghost use Rattle.pwg_definitions.specs.declared.pages.Kind.TheVariants.{Black1, Black8, Cmyk8, Gray8, Rgb8};
 ghost use Rattle.separation_definitions.specs.Amounts.{amount, pixel_at};
 ghost use Rattle.std.specs.Prelude.{List, [], slice_index, ◌∷◌, ◌≡◌};
 
@@ -40,4 +41,13 @@ pub fn one_bit()
     ensures cmyk { amounts_by inks.Cmyk Black1 (1 ∷ []) ≡ 255 ∷ 0 ∷ 0 ∷ 0 ∷ [] }
     ensures white { amounts_by inks.Cmyk Black1 (0 ∷ []) ≡ 0 ∷ 0 ∷ 0 ∷ 0 ∷ [] }
     ensures white_of_three { amounts_by inks.Cmy Black1 (0 ∷ []) ≡ 0 ∷ 0 ∷ 0 ∷ 0 ∷ [] }
+{}
+
+/// The pixels of a tile whose bytes by columns count from 1: columns of three and of four bytes, and a byte of one bit.
+pub fn columns()
+    ensures grey { pixel_in Gray8 numbered 1 2 ≡ 35 ∷ [] }
+    ensures colour { pixel_in Rgb8 numbered 1 2 ≡ 99 ∷ 131 ∷ 163 ∷ [] }
+    ensures four { pixel_in Cmyk8 numbered 1 0 ≡ 129 ∷ 161 ∷ 193 ∷ 225 ∷ [] }
+    ensures bit { pixel_in Black1 numbered 0 4 ≡ 1 ∷ [] }
+    ensures white { pixel_in Black1 (0 ∷ []) 0 0 ≡ 0 ∷ [] }
 {}

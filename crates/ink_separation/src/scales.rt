@@ -6,7 +6,7 @@ ghost use Rattle.printer_definitions.specs.declared.inks.Ink.{Ink};
 ghost use Rattle.printer_profile.specs.Validity.{check};
 ghost use Rattle.std.specs.Prelude.{IsOk, [], slice_index, slice_index_or, true, ℕ, ◌*◌, ◌+◌, ◌/◌, ◌<◌, ◌≡◌, ◌≤◌};
 
-use crate::pixels::{PIXELS, Values, high_of};
+use crate::pixels::{PIXELS, Values};
 use crate::planes::Plane;
 use printer_definitions::Ink;
 use printer_profile::{Profile, STRAIGHT_CURVE};
@@ -234,24 +234,12 @@ fn look_up_sixteen(given: &Values, table: &[u8; 256], first: usize, amounts: &mu
     }
 }
 
-// A limit in parts of 2^16, and one part more: its product with an amount has the scaled amount as its upper half.
-fn factor_of(limit: u8) -> u16
-    requires { limit < 255 }
-    ensures { result ≡ limit * 65536 / 255 + 1 }
-{
-    (u32::from(limit) * 65_536 / 255 + 1) as u16
-}
-
-// Scales a tile's amounts by a limit. One multiplication takes the place of a division.
+// Scales a tile's amounts by a limit.
 fn limit_all(plane: &mut Plane, limit: u8)
     ensures { (n : ℕ) → n < 2048 → slice_index plane.new n ≡ slice_index plane.old n * limit / 255 }
 {
-    if limit == 255 {
-        return;
-    }
-    let factor = factor_of(limit);
     for n in 0..2048 {
-        plane[n] = high_of(u16::from(plane[n]), factor) as u8;
+        plane[n] = part(plane[n], limit);
     }
 }
 

@@ -1,4 +1,4 @@
-use Rattle.std.proofs.Common.{◌≡◌, ◌+◌, ◌*◌, ◌∙◌, arith}
+use Rattle.std.proofs.Common.{arith}
 use Rattle.ink_separation.proofs.colours.colours_of.Goals as goal
 
 pub returns-clause-first : goal.returns-clause-first

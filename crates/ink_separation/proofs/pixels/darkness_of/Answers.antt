@@ -1,5 +1,5 @@
 use Rattle.std.proofs.lemmas.Grind.{common_steps}
-use Rattle.std.proofs.Common.{arith, ◌∙◌, length-set}
+use Rattle.std.proofs.Common.{arith, length-set}
 use Rattle.ink_separation.proofs.Filled.{filled_more}
 use Rattle.ink_separation.proofs.pixels.darkness_of.Goals as goal
 

@@ -1,4 +1,3 @@
-use Rattle.std.proofs.Common.{ℕ, ◌+◌, ◌-◌, ◌*◌, get_or, min}
 use Rattle.pwg_definitions.specs.declared.pages.Kind.TheVariants.{Rgb8}
 use Rattle.separation_definitions.specs.Amounts.{colour_of, darkness}
 use Rattle.ink_separation.specs.Columns.{pixel_in}

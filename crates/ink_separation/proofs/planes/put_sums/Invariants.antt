@@ -1,4 +1,4 @@
-use Rattle.std.proofs.Common.{ℕ, ◌+◌, ◌-◌, ◌*◌, get_or, min}
+use Rattle.std.proofs.Common.{◌+◌, ◌*◌, get_or, min}
 use Rattle.ink_separation.specs.Planes.{HasOffsets}
 use Rattle.ink_separation.proofs.planes.put_sums.Given as goal
 

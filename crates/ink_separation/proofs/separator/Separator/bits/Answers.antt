@@ -1,4 +1,4 @@
-use Rattle.std.proofs.Common.{◌≤◌, ◌+◌, ◌/◌, ◌∙◌, arith}
+use Rattle.std.proofs.Common.{arith}
 use Rattle.ink_separation.proofs.Chunks.{one_bit}
 use Rattle.ink_separation.proofs.separator.Separator.bits.Goals as goal
 

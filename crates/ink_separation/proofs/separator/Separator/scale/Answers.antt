@@ -1,4 +1,4 @@
-use Rattle.std.proofs.Common.{ℕ, ◌+◌, ◌∙◌, [], ap, arith, get_or}
+use Rattle.std.proofs.Common.{ℕ, ◌∙◌, ap, arith}
 use Rattle.ink_separation.specs.Separated.{tile_amount}
 use Rattle.ink_separation.specs.Separators.{amount_in}
 use Rattle.ink_separation.proofs.TileInks.{few, inks_more}

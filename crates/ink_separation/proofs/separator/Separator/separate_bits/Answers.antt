@@ -1,4 +1,4 @@
-use Rattle.std.proofs.Common.{◌≡◌, ◌≢◌, ℕ, ◌+◌, ◌*◌, ◌∙◌, inl, inr, ap, arith, get_or, min, sym}
+use Rattle.std.proofs.Common.{◌≡◌, ℕ, ◌*◌, ◌∙◌, inl, inr, ap, arith, get_or, min, sym}
 use Rattle.std.proofs.lemmas.Bool.{cases_eq}
 use Rattle.separation_definitions.specs.Amounts.{grey_ink}
 use Rattle.ink_separation.specs.Separators.{amount_in}

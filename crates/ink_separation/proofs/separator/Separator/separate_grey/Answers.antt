@@ -1,6 +1,5 @@
 use Rattle.std.proofs.Common.{ℕ, ◌∙◌, ap, get_or, sym}
 use Rattle.std.proofs.lemmas.List.{get_or-replicate}
-use Rattle.separation_definitions.specs.Amounts.{grey_ink}
 use Rattle.ink_separation.specs.Columns.{grey_in}
 use Rattle.ink_separation.specs.Separators.{amount_in}
 use Rattle.ink_separation.proofs.Greys.{takes_all, takes_nothing}

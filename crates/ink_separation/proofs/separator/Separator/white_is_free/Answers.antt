@@ -1,7 +1,4 @@
-use Rattle.std.proofs.Common.{◌≡◌, ℕ, ◌+◌, ◌∙◌, ap, arith, inl, inr, slice_get, sym}
-use Rattle.std.proofs.lemmas.Bool.{cases_lt}
-use Rattle.printer_definitions.specs.Inks.{inks_of}
-use Rattle.ink_separation.specs.Columns.{white_pixel}
+use Rattle.std.proofs.Common.{◌∙◌, ap, arith, sym}
 use Rattle.ink_separation.specs.Separators.{amount_in, printer_in}
 use Rattle.ink_separation.proofs.TileInks.{free_more, within}
 use Rattle.ink_separation.proofs.White.{white_pixel_gives}

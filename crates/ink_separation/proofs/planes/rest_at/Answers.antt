@@ -1,10 +1,10 @@
-use Rattle.std.proofs.Common.{◌≡◌, ℕ, List, ◌+◌, ◌-◌, ◌*◌, ◌∙◌, ap, arith, length-set}
+use Rattle.std.proofs.Common.{◌≡◌, ℕ, List, ◌-◌, ◌∙◌, ap, arith, length-set}
 use Rattle.printer_definitions.specs.declared.inks.Ink.TheVariants.{Cyan, Magenta, Yellow}
 use Rattle.pwg_definitions.specs.declared.pages.Kind.TheVariants.{Cmyk8}
 use Rattle.separation_definitions.specs.Amounts.{colour_left, darkness, with_black}
 use Rattle.ink_separation.specs.Columns.{pixel_in}
-use Rattle.ink_separation.proofs.Offsets.{rows_more}
-use Rattle.ink_separation.proofs.planes.put_rest.Goals as goal
+use Rattle.ink_separation.proofs.Filled.{filled_more}
+use Rattle.ink_separation.proofs.planes.rest_at.Goals as goal
 
 pub loop-r-preserved : goal.loop-r-preserved
 loop-r-preserved c =
@@ -18,7 +18,7 @@ loop-r-preserved c =
     ∙ ap (λ n. left (with_black pixel Cyan) n c.saturating_add-in-loop-r-2.result) magenta
     ∙ ap (left (with_black pixel Cyan) (with_black pixel Magenta)) yellow in
     record {
-      len = length-set c.loop-r.plane _ _ ∙ c.loop-r.invariant.len;
-      puts = rows_more (λ o r. darkness (colour_left (pixel_in Cmyk8 c.args.columns.now o r))) c.args.o c.loop-r.r _
-          c.args.plane.now c.loop-r.plane (omega (arith, c.loop-r.invariant.len)) value c.loop-r.invariant.puts;
+      len = length-set c.loop-r.values _ _ ∙ c.loop-r.invariant.len;
+      filled = filled_more c.loop-r.values c.loop-r.r _ (λ k. darkness (colour_left (pixel_in Cmyk8 c.args.columns.now c.args.o k))) (omega (arith, c.loop-r.invariant.len)) value
+          c.loop-r.invariant.filled;
     }
