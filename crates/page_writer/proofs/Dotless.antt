@@ -1,12 +1,27 @@
 -- Packed rows without dots.
 use Rattle.std.proofs.Common.{◌≡◌, ℕ, zero, suc, ◌+◌, ◌-◌, ◌*◌, ◌/◌, ◌≤◌, ◌<◌, max, Bool, true, false, not, ◌&&◌, ◌||◌, ◌==◌, List, [], ◌∷◌}
-use Rattle.std.proofs.Common.{length, take, drop, replicate, get_or, refl, sym, ◌∙◌, ap, arith, length-drop}
+use Rattle.std.proofs.Common.{bit_or, length, take, drop, replicate, get_or, refl, sym, ◌∙◌, ap, arith, length-drop}
 use Rattle.std.specs.List.{list_all, list_any}
 use Rattle.std.proofs.lemmas.Bool.Decides.{nat_tests}
+use Rattle.std.proofs.lemmas.Nat.{le_or_l, le_or_r}
 use Rattle.std.proofs.lemmas.List.{drop-drop, drop-replicate, length-replicate, take-append-drop}
 use Rattle.std.proofs.lemmas.List.Folds.{list_all-append, list_all_more}
 use Rattle.base_definitions.specs.Packed.{at, packed, packed_byte, packed_bytes, worth}
 use Rattle.page_laws.proofs.Passes.{no-dot}
+
+-- ---- the bits that any byte has
+
+-- two numbers have no bits where both are 0
+or-zero : (m n : ℕ) → (bit_or m n == 0) ≡ ((m == 0) && (n == 0))
+or-zero zero zero = refl
+or-zero zero (suc n) = let right = le_or_r 0 (suc n) in grind (arith, nat_tests)
+or-zero (suc m) n = let left = le_or_l (suc m) n in grind (arith, nat_tests)
+
+-- one more byte of a block
+pub block_more : (row : List ℕ) (any i : ℕ) → i < length row → (any == 0) ≡ list_all (λ byte. byte == 0) (take i row)
+    → (bit_or any (get_or row i 0) == 0) ≡ list_all (λ byte. byte == 0) (take (i + 1) row)
+block_more row any i low so_far =
+    or-zero any (get_or row i 0) ∙ ap (λ b. b && (get_or row i 0 == 0)) so_far ∙ sym (list_all_more (λ byte. byte == 0) row i 0 low)
 
 -- ---- the greatest byte
 

@@ -8,8 +8,10 @@ ghost use Rattle.std.specs.Prelude.{IfSome, replicate, ◌<◌, ◌==◌, ◌≡
 use base_definitions::MOST_ROW_BYTES;
 use dot_planes::Planes;
 
-// How many bytes of a row are looked at at once.
+// How many bytes of a row are looked at at once: as many as go, and behind these fewer.
 const BLOCK: usize = 64;
+
+const PART: usize = 16;
 
 // The widest row, without dots.
 static BLANK: [u8; MOST_ROW_BYTES] = [0; MOST_ROW_BYTES];
@@ -37,29 +39,44 @@ pub(crate) fn plane_row(planes: &Planes, place: u8, row: Option<u32>) -> &[u8]
     }
 }
 
-// Whether a block has no dot: its greatest byte is 0. The loop has a known length and never ends early, so that it
-// becomes vectors.
+// Whether a block has no dot: no byte has a bit. The loop has a known length and never ends early, so that it becomes
+// vectors.
 #[inline(always)]
-fn is_blank_block(block: &[u8; BLOCK]) -> bool
+fn is_blank_block<const N: usize>(block: &[u8; N]) -> bool
     ensures { result ≡ list_all (λ byte. byte == 0) block.now }
 {
+    let mut any = 0u8;
+    'bytes: for k in 0..N {
+        any |= block[k];
+    }
+    any == 0
+}
+
+// The same of the few bytes behind the last part: their greatest is 0.
+#[inline(always)]
+fn is_blank_tail(tail: &[u8]) -> bool
+    ensures { result ≡ list_all (λ byte. byte == 0) tail.now }
+{
     let mut most = 0u8;
-    'bytes: for k in 0..BLOCK {
-        most = most.max(block[k]);
+    'bytes: for byte in tail {
+        most = most.max(*byte);
     }
     most == 0
 }
 
-// The same of the few bytes behind the last block.
+// The same of the bytes behind the last block.
 #[inline(always)]
-fn is_blank_rest(rest: &[u8]) -> bool
-    ensures { result ≡ list_all (λ byte. byte == 0) rest.now }
+fn is_blank_rest(bytes: &[u8]) -> bool
+    ensures { result ≡ list_all (λ byte. byte == 0) bytes.now }
 {
-    let mut most = 0u8;
-    'bytes: for byte in rest {
-        most = most.max(*byte);
+    let mut rest = bytes;
+    'parts: while let Some((part, behind)) = rest.split_first_chunk::<PART>() {
+        if !is_blank_block::<PART>(part) {
+            return false;
+        }
+        rest = behind;
     }
-    most == 0
+    is_blank_tail(rest)
 }
 
 /// Whether a packed row has no dot.
@@ -68,8 +85,8 @@ pub fn is_blank(row: &[u8]) -> bool
     ensures { result ≡ list_all (λ byte. byte == 0) row.now }
 {
     let mut rest = row;
-    'blocks: while let Some((block, behind)) = rest.split_first_chunk() {
-        if !is_blank_block(block) {
+    'blocks: while let Some((block, behind)) = rest.split_first_chunk::<BLOCK>() {
+        if !is_blank_block::<BLOCK>(block) {
             return false;
         }
         rest = behind;

@@ -1,12 +1,12 @@
-use Rattle.std.proofs.Common.{◌==◌, ap, ◌∙◌}
-use Rattle.std.specs.List.{list_all}
-use Rattle.std.proofs.lemmas.List.{take_all}
-use Rattle.page_writer.proofs.Dotless.{blank_more}
+use Rattle.page_writer.proofs.Dotless.{blank_behind, not_blank}
 use Rattle.page_writer.proofs.blank.is_blank_rest.Goals as goal
 
-pub bytes-preserved : goal.bytes-preserved
-bytes-preserved c =
-    ap (λ n. n == 0) c.max-most.ensures ∙ blank_more _ _ _ c.bytes-test.true c.bytes.invariant
+pub returns-then-not-is_blank_block : goal.returns-then-not-is_blank_block
+returns-then-not-is_blank_block c =
+    not_blank 16 c.parts.rest.now c.parts.invariant c.in-Some.ensures.cases.0
+    c.is_blank_block.ensures c.if-not-is_blank_block.true
 
-pub returns : goal.returns
-returns c = c.bytes.invariant ∙ ap (list_all (λ byte. byte == 0)) (take_all _ _ c.bytes-test.false)
+pub parts-preserved : goal.parts-preserved
+parts-preserved c =
+    blank_behind 16 c.parts.rest.now c.parts.invariant c.in-Some.ensures.cases.0
+    c.in-Some.ensures.cases.1 c.is_blank_block.ensures c.if-not-is_blank_block.false

@@ -1,0 +1,6 @@
+use Rattle.std.proofs.Common.{◌≡◌, ◌==◌, take}
+use Rattle.std.specs.List.{list_all}
+use Rattle.page_writer.proofs.blank.is_blank_tail.Given as goal
+
+abbrev pub invariant-bytes : goal.invariant-bytes
+invariant-bytes l = (l.most == 0) ≡ list_all (λ byte. byte == 0) (take l.byte-index l.tail)
