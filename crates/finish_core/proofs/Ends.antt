@@ -13,11 +13,10 @@ use Rattle.finish_core.specs.declared.halts.Halt.{Halt}
 use Rattle.finish_core.specs.declared.halts.Halt.TheVariants as halt
 use Rattle.finish_core.specs.declared.parts.Parts.{Parts}
 use Rattle.finish_core.specs.Outcome.{EndsBetween, FinishOutcome, Finishes, FinishesPart, TakesNothing, all_told, answer_of}
-use Rattle.finish_core.specs.Passing.{FailsEnd, GoesOn, HaltsBetween, HaltsPart, IsAskHalt, PassesAll, PassesJob, ends_page, job_of, page_in_hand}
+use Rattle.finish_core.specs.Passing.{FailsEnd, GoesOn, HaltsBetween, HaltsPart, IsAskHalt, PassesAll, PassesJob, ends_page, job_of, page_in_hand, state_in}
 use Rattle.finish_core.specs.Sides.{IsLater, Moment, ShelfHas, ShelfLacks, Sides, Tells, err_from, out_from}
 use Rattle.finish_definitions.specs.declared.state.PageState.TheVariants.{Between}
 use Rattle.finish_definitions.specs.Finished.{ending_bytes, page_state, whole_commands, whole_from}
-use Rattle.job_finisher.specs.Passing.{state_of}
 use Rattle.page_tally.proofs.Following.{job-state}
 use Rattle.page_tally.specs.declared.lines.Telling.{Telling}
 use Rattle.page_tally.specs.declared.tally.Tally.{Tally}
@@ -195,7 +194,7 @@ cut_told telling t bytes is =
 
 finishes : (telling : Telling) (files : Option (List NamedText)) (parts : Parts) (input : Outside) (f : ℕ) (a b d : Moment) (bytes : List ℕ)
     → Consumes input.before input.now bytes → PassesAll telling parts a b [] bytes → IsLater a b → b.err_faults ≤ d.err_faults
-    → Appends b.out d.out (ending_bytes (state_of parts.finisher))
+    → Appends b.out d.out (ending_bytes (state_in parts))
     → Tells (err_from b d) (cut_lines telling (tally_of parts.watch) (tally_of parts.watch).state)
     → Finishes telling [] (sides_at input files f a d) bytes
 finishes telling files parts input f a b d bytes taken passes early late writes cut =
@@ -205,7 +204,7 @@ finishes telling files parts input f a b d bytes taken passes early late writes 
     record {
       taken = taken;
       writes = subst P (ap (λ state. whole_commands job ++ ending_bytes state) passes.1.state_is)
-          (Appends-trans a.out b.out d.out (whole_commands job) (ending_bytes (state_of parts.finisher))
+          (Appends-trans a.out b.out d.out (whole_commands job) (ending_bytes (state_in parts))
           (goes_written telling a b job passes.0) writes);
       tells = tells_as (err_from a d) (told telling job ++ line) (all_told telling job ++ [])
           (ap (λ bs. told telling job ++ bs) (cut_told telling (tally_of parts.watch) job passes.1.tally_is) ∙ sym (append-nil (all_told telling job)))
@@ -217,7 +216,7 @@ finishes telling files parts input f a b d bytes taken passes early late writes 
 pub page_ended : (telling : Telling) (stop : Option (List ℕ)) (files : Option (List NamedText)) (parts : Parts) (input : Outside) (f : ℕ)
     (a b d : Moment) (passed : Result (Unit {0}) Halt) → ends_page passed ≡ true → ShelfLacks stop files
     → PassesJob telling stop files parts input a b passed → IsLater a b → b.err_faults ≤ d.err_faults
-    → Appends b.out d.out (ending_bytes (state_of parts.finisher))
+    → Appends b.out d.out (ending_bytes (state_in parts))
     → Tells (err_from b d) (cut_lines telling (tally_of parts.watch) (tally_of parts.watch).state)
     → FinishOutcome telling stop [] (sides_at input files f a d) (answer_of passed)
 page_ended telling stop files parts input f a b d (Ok u) ended lacks job early late writes cut = inl (record {
@@ -286,12 +285,12 @@ end_failed telling stop files parts input f a b d passed why ended lacks job ear
         bytes = some.bytes;
         front = front;
         rest = [];
-        next = ending_bytes (state_of parts.finisher);
+        next = ending_bytes (state_in parts);
         more = [];
         taken = some.taken;
         split = sym (append-nil front);
         grow = ap (λ state. whole_commands front ++ ending_bytes state) (sym stands.state_is)
-            ∙ sym (append-nil (whole_commands front ++ ending_bytes (state_of parts.finisher)));
+            ∙ sym (append-nil (whole_commands front ++ ending_bytes (state_in parts)));
         near = inr (ap ending_bytes stands.state_is);
         page_is = ap page_in_hand stands.tally_is;
         middle = b.out;

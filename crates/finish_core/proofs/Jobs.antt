@@ -1,5 +1,5 @@
 -- A job that is passed on piece by piece.
-use Rattle.std.proofs.Common.{◌≡◌, ℕ, ◌+◌, ◌-◌, ◌<◌, ◌≤◌, List, [], ◌++◌, length, take, drop, Option, None, Some, Result, Ok, Err, refl, sym, ◌∙◌, ap}
+use Rattle.std.proofs.Common.{◌≡◌, ℕ, ◌+◌, ◌-◌, ◌<◌, ◌≤◌, List, [], ◌++◌, length, take, drop, Option, None, Result, Ok, Err, refl, sym, ◌∙◌, ap}
 use Rattle.std.proofs.Common.{subst, arith, append_assoc, append-nil, length-append, length-drop, take-append-drop}
 use Rattle.std.proofs.lemmas.List.{take_all}
 use Rattle.std.proofs.Math.Seq.{take-append-add}
@@ -10,16 +10,16 @@ use Rattle.escp2_definitions.specs.JobEnds.{job_end}
 use Rattle.escp2_definitions.specs.declared.stops.JobStop.TheVariants as job_stop
 use Rattle.escp2_reader.specs.Jobs.{JobMayGoOn}
 use Rattle.finish_core.proofs.Going.{goes_nowhere, goes_on, goes_to, halts_behind}
+use Rattle.finish_core.proofs.Seen.{stands_by}
 use Rattle.finish_core.specs.declared.halts.Halt.{Halt}
 use Rattle.finish_core.specs.declared.halts.Halt.TheVariants as halt
 use Rattle.finish_core.specs.declared.parts.Parts.{Parts}
 use Rattle.finish_core.specs.Passing.{GoesOn, IsHalt, IsPassed, IsPieceEnd, PassesAll, PassesJob, Reads, Stands, job_of, most_job}
-use Rattle.finish_core.specs.Sides.{IsLater, Moment, out_from}
-use Rattle.job_finisher.proofs.FinishedJobs.{piece_too_long, takes_end}
-use Rattle.job_finisher.specs.declared.finisher.JobFinisher.{JobFinisher}
-use Rattle.job_finisher.specs.Passing.{Passed, PassesOn}
+use Rattle.finish_core.specs.Sides.{IsLater, Moment}
+use Rattle.job_finisher.proofs.FinishedJobs.{may_go_on, refused_too_long}
 use Rattle.page_tally.specs.declared.lines.Telling.{Telling}
 use Rattle.page_watch.proofs.Pieces.{used_more}
+use Rattle.page_watch.specs.Watching.{Watched}
 use Rattle.weave_base.specs.Shelf.{NamedText}
 
 -- ---- the events of a piece
@@ -49,7 +49,7 @@ cut_piece fed sofar piece is within =
     ap (λ n. take n (sofar ++ piece)) split ∙ take-append-add sofar piece (most_job - fed)
 
 pub stands_of : (parts : Parts) (bytes : List ℕ) → Reads parts bytes → Stands parts bytes
-stands_of parts bytes reads = record { state_is = reads.passed.state_is; tally_is = reads.watched.tally_is }
+stands_of parts bytes reads = stands_by parts bytes reads.watched.tally_is
 
 -- the job goes on past its greatest length
 pub too_long : (telling : Telling) (stop : Option (List ℕ)) (files : Option (List NamedText)) (parts : Parts) (a b : Moment) (fed : ℕ)
@@ -58,11 +58,10 @@ pub too_long : (telling : Telling) (stop : Option (List ℕ)) (files : Option (L
     → IsPieceEnd telling stop files parts a b sofar (sofar ++ piece) (Err (halt.Job most_job job_stop.TooLong))
 too_long telling stop files parts a b fed sofar piece first len within is long ends =
     let whole : job_of (sofar ++ piece) ≡ sofar ++ first = cut_piece fed sofar piece len within ∙ ap (λ bs. sofar ++ bs) (sym is) in
-    let P : List ℕ → Type 0 = Passed parts.finisher in
-    let Q : List ℕ → Type 0 = PassesOn (out_from a b) sofar in (
+    let P : List ℕ → Type 0 = Watched parts.watch in
+    let watched : Watched parts.watch (sofar ++ first) = subst P whole ends.0.watched in (
       (ends.1, stands_of parts (job_of (sofar ++ piece)) ends.0),
-      (piece_too_long most_job fed parts.finisher (out_from a b) sofar piece first len within is long
-          (subst Q whole ends.1.passes) (subst P whole ends.0.passed)).1,
+      refused_too_long most_job fed sofar piece first watched.part len within is long watched.behind watched.part_is,
     )
 
 -- ---- a job, read by read
@@ -122,24 +121,6 @@ passes_more telling stop files old parts fed next before text now a b d piece so
           (goes_to telling b d so_far.bytes (job_of bytes) bytes all ends.1);
     }
 
--- more bytes could mend where these end
-may_go_on : (finisher : JobFinisher) (bytes : List ℕ) → Passed finisher bytes → length bytes ≤ most_job
-    → JobMayGoOn (job_end bytes most_job None)
-may_go_on finisher bytes passed within =
-    let input : Outside = record { before = Some bytes; now = Some []; faults_before = 0; faults_now = 0 } in
-    let out : Outside = record { before = None; now = None; faults_before = 0; faults_now = 0 } in
-    let takes = takes_end finisher most_job (length bytes) input out (Ok tt) (record {
-      bytes = bytes;
-      taken = sym (append-nil bytes);
-      passed = passed;
-      fed_is = refl;
-      within = within;
-      writes = tt;
-    }) (λ may. (refl, may)) in
-    let same : bytes ≡ takes.bytes = takes.taken ∙ append-nil takes.bytes in
-    let P : List ℕ → Type 0 = λ bs. JobMayGoOn (job_end bs most_job None) in
-    subst P (sym same) takes.ends.1
-
 -- the job ends with a whole command or inside one, at the end of the source or at a failed read
 pub passes_end : (telling : Telling) (stop : Option (List ℕ)) (files : Option (List NamedText)) (parts : Parts) (fed : ℕ) (input : Outside)
     (a b : Moment) (answer : Result (Unit {0}) Halt) (so_far : PassesSoFar telling parts fed input.before input.now a b)
@@ -156,7 +137,7 @@ passes_end telling stop files parts fed input a b answer so_far ends =
       is = ends (
         goes_to telling a b [] so_far.bytes (job_of so_far.bytes) all so_far.goes,
         subst P all (stands_of parts so_far.bytes so_far.reads),
-      ) (may_go_on parts.finisher so_far.bytes so_far.reads.passed within);
+      ) (may_go_on most_job so_far.bytes so_far.reads.watched.part so_far.reads.watched.behind so_far.reads.watched.part_is within);
     }
 
 -- where the passing of a job halts

@@ -1,10 +1,12 @@
 -- How a job is passed on, from one moment of a run to another.
-use Rattle.std.specs.Prelude.{◌≡◌, ℕ, ◌≤◌, ◌⊎◌, List, [], ◌++◌, length, take, Option, None, IsSome, Result, Ok, Err, Bool, true, false}
+use Rattle.std.specs.Prelude.{◌≡◌, ℕ, ◌≤◌, ◌⊎◌, List, [], ◌++◌, length, take, Option, None, Some, IsSome, Result, Ok, Err}
+use Rattle.std.specs.Prelude.{Bool, true, false}
 use Rattle.std.specs.Io.KnownBytes.{Consumes, IsAtEnd}
 use Rattle.buffered_bytes.specs.Outside.{HasRisen, Outside}
 use Rattle.escp2_definitions.specs.declared.command.Command.{Command}
 use Rattle.escp2_definitions.specs.declared.command.Command.TheVariants as c
 use Rattle.escp2_definitions.specs.declared.stops.JobStop.{JobStop}
+use Rattle.escp2_definitions.specs.declared.stops.JobStop.TheVariants as job_stop
 use Rattle.escp2_definitions.specs.Commands.{Entry, commands}
 use Rattle.escp2_definitions.specs.JobEnds.{job_end}
 use Rattle.escp2_reader.specs.Jobs.{JobMayGoOn}
@@ -12,10 +14,12 @@ use Rattle.finish_core.specs.declared.halts.Halt.{Halt}
 use Rattle.finish_core.specs.declared.halts.Halt.TheVariants as halt
 use Rattle.finish_core.specs.declared.parts.Parts.{Parts}
 use Rattle.finish_core.specs.Sides.{Moment, ShelfHas, Tells, err_from, out_from}
+use Rattle.finish_definitions.specs.declared.state.PageState.{PageState}
 use Rattle.finish_definitions.specs.declared.state.PageState.TheVariants.{Between}
 use Rattle.finish_definitions.specs.Finished.{ending_bytes, finished, page_state, whole_commands}
+use Rattle.job_finisher.specs.Holding.{held_in}
 use Rattle.job_finisher.specs.Outcome.{IsRefused}
-use Rattle.job_finisher.specs.Passing.{Passed, PassesOn, fed_in, state_of}
+use Rattle.job_finisher.specs.Passing.{PassesOn}
 use Rattle.page_tally.specs.declared.lines.Telling.{Telling}
 use Rattle.page_tally.specs.declared.tally.Tally.{Tally}
 use Rattle.page_tally.specs.Lines.{page_number}
@@ -23,7 +27,7 @@ use Rattle.page_tally.specs.Tallies.{number_up_to}
 use Rattle.page_watch.specs.declared.watch.SeenState.{SeenState}
 use Rattle.page_watch.specs.declared.watch.SeenState.TheVariants as seen
 use Rattle.page_watch.specs.declared.watch.Event.{Event}
-use Rattle.page_watch.specs.Watching.{AllQuiet, EndsWith, Watched, seen_lines, tally_behind, tally_of, told}
+use Rattle.page_watch.specs.Watching.{AllQuiet, EndsWith, Watched, fed_to, seen_lines, tally_behind, tally_of, told}
 use Rattle.weave_base.specs.Causes.{Rose}
 use Rattle.weave_base.specs.Parts.{AppendsPart}
 use Rattle.weave_base.specs.Shelf.{NamedText}
@@ -42,9 +46,9 @@ page_in_hand t = number_up_to (page_number t)
 
 -- ---- what was passed on
 
--- The parts took these bytes of a job, without a fault.
+-- The parts took these bytes of a job, without a fault: the bytes in hand are those behind the whole commands.
 pub record Reads (parts : Parts) (sofar : List ℕ) : Type 0 where
-  pub passed : Passed parts.finisher sofar
+  pub behind : sofar ≡ whole_commands sofar ++ held_in parts.held
   pub watched : Watched parts.watch sofar
 
 -- the parts took some bytes of a job, without a fault
@@ -53,11 +57,15 @@ IsReading parts = (sofar : List ℕ) × Reads parts sofar
 
 -- how many bytes the parts took
 abbrev pub fed_parts : Parts → ℕ
-fed_parts parts = fed_in parts.finisher
+fed_parts parts = fed_to parts.watch
+
+-- where the job stands in its page
+abbrev pub state_in : Parts → PageState
+state_in parts = (tally_of parts.watch).state
 
 -- The parts stand behind these bytes, whose commands may have a fault behind them.
 pub record Stands (parts : Parts) (bytes : List ℕ) : Type 0 where
-  pub state_is : state_of parts.finisher ≡ page_state bytes
+  pub state_is : state_in parts ≡ page_state bytes
   pub tally_is : tally_of parts.watch ≡ tally_behind bytes
 
 -- From some bytes of a job to more of them, the output grew by what they made whole, and the error sink by their lines.
@@ -140,7 +148,7 @@ IsPieceEnd telling stop files parts from to before full (Err why) = IsHalt telli
 abbrev pub OnDue : SeenState → (Event → Type 0) → Type 0
 OnDue seen.More P = Unit {0}
 OnDue (seen.Due event) P = P event
-OnDue seen.Fault P = Unit {0}
+OnDue (seen.Fault offset cause) P = Unit {0}
 
 -- The parts took more bytes, up to the end of an event, and the output grew by what they made whole.
 pub record PassesSeen (telling : Telling) (parts : Parts) (out : Outside) (before after : List ℕ) (state : SeenState) : Type 0 where
@@ -173,6 +181,12 @@ IsStop telling parts out before full (halt.Write page) = HasRisen out × StopsPa
 IsStop telling parts out before full (halt.Job offset cause) = StopsAtFault telling parts out before full offset cause
 IsStop telling parts out before full other = ⊥
 
+-- why the parts stop where the watch stops, if it met a fault
+abbrev pub fault_halt : SeenState → Option Halt
+fault_halt seen.More = None
+fault_halt (seen.Due event) = None
+fault_halt (seen.Fault offset cause) = Some (halt.Job offset (job_stop.Reader cause))
+
 -- whether a command is a reset
 abbrev pub is_init : Command → Bool
 is_init c.Init = true
@@ -182,7 +196,7 @@ is_init other = false
 abbrev pub is_reset : SeenState → Bool
 is_reset seen.More = false
 is_reset (seen.Due event) = is_init event.command
-is_reset seen.Fault = false
+is_reset (seen.Fault offset cause) = false
 
 -- why the shelf ends a run
 abbrev pub IsAskHalt : Option (List ℕ) → Option (List NamedText) → ℕ → ℕ → Halt → Type 0
@@ -220,4 +234,4 @@ ends_page (Err other) = false
 pub record FailsEnd (parts : Parts) (out : Outside) (why : Halt) : Type 0 where
   pub why_is : why ≡ halt.Write (page_in_hand (tally_of parts.watch))
   pub rose : HasRisen out
-  pub part : AppendsPart out.before out.now (ending_bytes (state_of parts.finisher))
+  pub part : AppendsPart out.before out.now (ending_bytes (state_in parts))

@@ -35,7 +35,7 @@ fn is_reset(state: SeenState) -> bool
 {
     match state {
         SeenState::Due(event) => matches!(event.command, Command::Init),
-        SeenState::More | SeenState::Fault => false,
+        SeenState::More | SeenState::Fault { .. } => false,
     }
 }
 

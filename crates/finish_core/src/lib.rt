@@ -10,9 +10,10 @@
 //! (`memory`). On 1 a word is refused, and nothing is taken (`usage`). The lines of pages are those of a printer's
 //! sheets, in order, with the dots of each ink (`lines`).
 //!
-//! A `Parts` has the finisher and the watch of a job, and all their memory. `passing` passes on pieces: each goes to
-//! the watch, up to the next command of interest, and exactly these bytes to the finisher. Then the lines are told, and
-//! behind a reset the shelf is asked. No failed write to the error sink stops a run. `tell_answer` writes the error
+//! A `Parts` has the watch of a job and the bytes of the command in hand, and all their memory. `passing` passes on
+//! pieces: each goes to the watch, up to the next command of interest. The watch reads each byte once. Of exactly these
+//! bytes the whole commands are written, and the rest is kept. Then the lines are told, and behind a reset the shelf is
+//! asked. No failed write to the error sink stops a run. `tell_answer` writes the error
 //! line of an answer that is given without a run.
 #![tactic(auto)]
 

@@ -1,24 +1,24 @@
-//! The finisher and the watch of a job.
+//! The watch of a job, and the bytes of the command in hand.
 ghost use Rattle.buffered_bytes.specs.Outside.{outside_of};
-ghost use Rattle.finish_core.specs.Passing.{FailsEnd, IsReading, IsStop, PassesSeen, Reads, fed_parts, job_of, page_in_hand};
+ghost use Rattle.finish_core.specs.Passing.{FailsEnd, IsReading, IsStop, PassesSeen, Reads, fault_halt, fed_parts};
+ghost use Rattle.finish_core.specs.Passing.{job_of, page_in_hand, state_in};
 ghost use Rattle.finish_definitions.specs.Finished.{ending_bytes};
-ghost use Rattle.job_finisher.specs.Passing.{state_of};
 ghost use Rattle.page_watch.specs.Watching.{tally_of};
 ghost use Rattle.std.specs.Io.KnownBytes.{Appends};
 ghost use Rattle.std.specs.Prelude.{IfErr, IfOk, List, OnOk, [], length, take, ℕ, ◌++◌, ◌+◌, ◌<◌, ◌≡◌, ◌≤◌, ◌^◌};
 
 use crate::halts::Halt;
 use driver_answer::JobStop;
-use job_finisher::{JobFinisher, PassStop};
+use job_finisher::HeldCommand;
 use page_tally::{Tally, Telling};
-use page_watch::{PageWatch, Seen};
+use page_watch::{PageWatch, Seen, SeenState};
 use std::alloc::Global;
-use weave_base::{Memory, Sink};
+use weave_base::{Memory, Sink, put_all};
 
-/// The finisher of a job, and the watch that tells its pages.
+/// The watch that reads a job, and the bytes of the command in hand.
 #[derive(Drop)]
 pub struct Parts {
-    finisher: JobFinisher,
+    held: HeldCommand,
     watch: PageWatch,
 }
 
@@ -28,7 +28,7 @@ impl Parts {
         ensures { IfOk result (λ parts. Reads parts []) }
     {
         Ok(Parts {
-            finisher: JobFinisher::make(alloc)?,
+            held: HeldCommand::make(alloc)?,
             watch: PageWatch::make(alloc)?,
         })
     }
@@ -69,25 +69,42 @@ impl Parts {
     {
         let page = self.page();
         let seen = self.watch.feed(piece, telling);
-        match self.finisher.pass(&piece[..seen.used], out) {
-            Ok(()) => Ok(seen),
-            Err(PassStop::Write) => Err(Halt::Write { page }),
-            Err(PassStop::Fault { offset, cause }) => Err(Halt::Job {
-                offset,
-                cause: JobStop::Reader(cause),
-            }),
+        let used = &piece[..seen.used];
+        match self.held.write_whole(used, seen.whole, out) {
+            Ok(()) => {}
+            Err(_failed) => return Err(Halt::Write { page }),
+        }
+        match fault_halt(seen.state) {
+            Some(halt) => Err(halt),
+            None => {
+                self.held.keep_rest(used, seen.whole);
+                Ok(seen)
+            }
         }
     }
 
     /// Writes the commands that end the page.
     pub fn end_page<K: Sink>(&self, out: &mut K) -> Result<(), Halt>
-        ensures ok { OnOk result (Appends (K.held out.old) (K.held out.new) (ending_bytes (state_of self.now.finisher))) }
+        ensures ok { OnOk result (Appends (K.held out.old) (K.held out.new) (ending_bytes (state_in self.now))) }
         ensures part { IfErr result (FailsEnd self.now (outside_of K.held K.faults out.old out.new)) }
         ensures later { K.faults out.old ≤ K.faults out.new }
     {
-        match self.finisher.end(out) {
+        match put_all(out, self.tally().state.ending()) {
             Ok(()) => Ok(()),
             Err(_failed) => Err(Halt::Write { page: self.page() }),
         }
+    }
+}
+
+// Why the parts stop where the watch stops, if it met a fault.
+fn fault_halt(state: SeenState) -> Option<Halt>
+    ensures { result ≡ fault_halt state }
+{
+    match state {
+        SeenState::Fault { offset, cause } => Some(Halt::Job {
+            offset,
+            cause: JobStop::Reader(cause),
+        }),
+        SeenState::More | SeenState::Due(_) => None,
     }
 }

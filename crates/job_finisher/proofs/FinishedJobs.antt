@@ -22,7 +22,7 @@ use Rattle.job_finisher.specs.declared.finisher.PassStop.TheVariants as pass
 use Rattle.job_finisher.specs.declared.job.FinishStop.{FinishStop}
 use Rattle.job_finisher.specs.declared.job.FinishStop.TheVariants as stop
 use Rattle.job_finisher.specs.Job.{IsPieceEnd, PassResult, TakesJob, TakesPart, is_write_failure, pass_stop}
-use Rattle.job_finisher.specs.Outcome.{EndsJob, FinishResult, Finishes, FinishesPart}
+use Rattle.job_finisher.specs.Outcome.{EndsJob, FinishResult, Finishes, FinishesPart, IsRefused}
 use Rattle.job_finisher.specs.Passing.{IsPassStop, Passed, PassesOn, PassesPart, in_hand, state_of}
 use Rattle.weave_base.proofs.Parting.{part_behind, part_of_front}
 use Rattle.weave_base.specs.Causes.{Rose}
@@ -73,31 +73,39 @@ piece_stopped most fed finisher out sofar piece first why answer len within is t
     by_stop pass.Write whole stops = let P : List ℕ → Type 0 = PassesPart out sofar in (stops.0, subst P (sym whole) stops.1)
 
 -- the job goes on past its greatest length
+pub refused_too_long : (most fed : ℕ) (sofar piece first hand : List ℕ)
+    → length sofar ≡ fed → fed ≤ most → first ≡ take (most - fed) piece → most - fed < length piece
+    → sofar ++ first ≡ whole_commands (sofar ++ first) ++ hand → command_at hand ≡ Part
+    → IsRefused most (sofar ++ piece) most job_stop.TooLong
+refused_too_long most fed sofar piece first hand len within is long behind part_is =
+    let after : List ℕ = sofar ++ first in
+    let done : List ℕ = whole_commands after in
+    let rest : List ℕ = drop (most - fed) piece in
+    let sized : length first ≡ most - fed = ap length is ∙ length-take-le (most - fed) piece (omega (arith, long)) in
+    let parts : done ++ (hand ++ rest) ≡ sofar ++ piece =
+    sym (append_assoc done hand rest) ∙ ap (λ bs. bs ++ rest) (sym behind) ∙ append_assoc sofar first rest
+    ∙ ap (λ bs. sofar ++ bs) (ap (λ bs. bs ++ rest) is ∙ take-append-drop (most - fed) piece) in
+    let full : length done + length hand ≡ most =
+    omega (arith, ap length behind, length-append done hand, length-append sofar first, sized, len, within) in
+    let more : rest ≡ [] → ⊥ = λ e. omega (arith, ap length e, length-drop (most - fed) piece, long) in
+    let ends = ends_too_long done hand rest most (commands after).entries (whole_are after).are full part_is more in
+    let P : List ℕ → Type 0 = λ bs. list_stop (commands (take most bs)).end most (length bs) ≡ stopped most job_stop.TooLong in
+    record { stops = subst P parts ends.stop_is; no_cut = λ (e : job_stop.TooLong ≡ job_stop.Cut). (cc) }
+
 pub piece_too_long : (most fed : ℕ) (finisher : JobFinisher) (out : Outside) (sofar piece first : List ℕ)
     → length sofar ≡ fed → fed ≤ most → first ≡ take (most - fed) piece → most - fed < length piece
     → PassesOn out sofar (sofar ++ first) → Passed finisher (sofar ++ first)
     → IsPieceEnd most finisher out sofar piece (Err (stop.Job most job_stop.TooLong))
 piece_too_long most fed finisher out sofar piece first len within is long passes passed =
     let after : List ℕ = sofar ++ first in
-    let whole : take most (sofar ++ piece) ≡ after = cut_piece most fed sofar piece len within ∙ ap (λ bs. sofar ++ bs) (sym is) in
-    let done : List ℕ = whole_commands after in
-    let rest : List ℕ = drop (most - fed) piece in
-    let sized : length first ≡ most - fed = ap length is ∙ length-take-le (most - fed) piece (omega (arith, long)) in
-    let parts : done ++ (in_hand finisher ++ rest) ≡ sofar ++ piece =
-    sym (append_assoc done (in_hand finisher) rest) ∙ ap (λ bs. bs ++ rest) (sym passed.behind) ∙ append_assoc sofar first rest
-    ∙ ap (λ bs. sofar ++ bs) (ap (λ bs. bs ++ rest) is ∙ take-append-drop (most - fed) piece) in
-    let full : length done + length (in_hand finisher) ≡ most =
-    omega (arith, ap length passed.behind, length-append done (in_hand finisher), length-append sofar first, sized, len, within) in
-    let more : rest ≡ [] → ⊥ = λ e. omega (arith, ap length e, length-drop (most - fed) piece, long) in
-    let ends = ends_too_long done (in_hand finisher) rest most (commands after).entries (whole_are after).are full passed.part_is more in
-    let P : List ℕ → Type 0 = λ bs. list_stop (commands (take most bs)).end most (length bs) ≡ stopped most job_stop.TooLong in (
+    let whole : take most (sofar ++ piece) ≡ after = cut_piece most fed sofar piece len within ∙ ap (λ bs. sofar ++ bs) (sym is) in (
       record {
         grown = passes.bytes;
         grow = ap whole_commands whole ∙ passes.grow;
         writes = passes.writes;
         state_is = passed.state_is ∙ ap page_state (sym whole);
       },
-      record { stops = subst P parts ends.stop_is; no_cut = λ (e : job_stop.TooLong ≡ job_stop.Cut). (cc) },
+      refused_too_long most fed sofar piece first (in_hand finisher) len within is long passed.behind passed.part_is,
     )
 
 -- ---- a job, piece by piece
@@ -191,29 +199,22 @@ taken_all : (finisher : JobFinisher) (most fed : ℕ) (before now held held_now 
 taken_all finisher most fed before now held held_now so_far = take_all most so_far.bytes (omega (arith, so_far.fed_is, so_far.within))
 
 -- more bytes could mend where these end
-may_go_on : (finisher : JobFinisher) (most : ℕ) (bytes : List ℕ) → Passed finisher bytes → length bytes ≤ most
+pub may_go_on : (most : ℕ) (bytes hand : List ℕ) → bytes ≡ whole_commands bytes ++ hand → command_at hand ≡ Part → length bytes ≤ most
     → JobMayGoOn (job_end bytes most None)
-may_go_on finisher most bytes passed within =
-    by_hand (in_hand finisher) passed.behind passed.part_is
-  where
-    done : List ℕ
-    done = whole_commands bytes
-
-    by_hand : (hand : List ℕ) → bytes ≡ whole_commands bytes ++ hand → command_at hand ≡ Part → JobMayGoOn (job_end bytes most None)
-    by_hand [] is part =
-        let same : bytes ≡ whole_commands bytes = is ∙ append-nil (whole_commands bytes) in
-        let ends = ends_whole (whole_commands bytes) most (commands bytes).entries (whole_are bytes).are (omega (arith, ap length same, within)) in
-        let P : List ℕ → Type 0 = λ bs. list_stop (commands (take most bs)).end most (length bs) ≡ None in
-        let Q : Option Stopped → Type 0 = JobMayGoOn in
-        subst Q (sym (subst P (sym same) ends.stop_is)) tt
-    by_hand (b ∷ hand) is part =
-        let some : b ∷ hand ≡ [] → ⊥ = λ e. omega (arith, ap length e) in
-        let ends = ends_cut (whole_commands bytes) (b ∷ hand) most (commands bytes).entries (whole_are bytes).are
-        (omega (arith, ap length is, length-append (whole_commands bytes) (b ∷ hand), within)) part some in
-        let P : List ℕ → Type 0 = λ bs. list_stop (commands (take most bs)).end most (length bs)
-        ≡ stopped (length (whole_commands bytes)) job_stop.Cut in
-        let Q : Option Stopped → Type 0 = JobMayGoOn in
-        subst Q (sym (subst P (sym is) ends.stop_is)) refl
+may_go_on most bytes [] is part within =
+    let same : bytes ≡ whole_commands bytes = is ∙ append-nil (whole_commands bytes) in
+    let ends = ends_whole (whole_commands bytes) most (commands bytes).entries (whole_are bytes).are (omega (arith, ap length same, within)) in
+    let P : List ℕ → Type 0 = λ bs. list_stop (commands (take most bs)).end most (length bs) ≡ None in
+    let Q : Option Stopped → Type 0 = JobMayGoOn in
+    subst Q (sym (subst P (sym same) ends.stop_is)) tt
+may_go_on most bytes (b ∷ hand) is part within =
+    let some : b ∷ hand ≡ [] → ⊥ = λ e. omega (arith, ap length e) in
+    let ends = ends_cut (whole_commands bytes) (b ∷ hand) most (commands bytes).entries (whole_are bytes).are
+    (omega (arith, ap length is, length-append (whole_commands bytes) (b ∷ hand), within)) part some in
+    let P : List ℕ → Type 0 = λ bs. list_stop (commands (take most bs)).end most (length bs)
+    ≡ stopped (length (whole_commands bytes)) job_stop.Cut in
+    let Q : Option Stopped → Type 0 = JobMayGoOn in
+    subst Q (sym (subst P (sym is) ends.stop_is)) refl
 
 -- the job ends with a whole command or inside one, at the end of the source or at a failed read
 pub takes_end : (finisher : JobFinisher) (most fed : ℕ) (input out : Outside) (answer : Result (Unit {0}) FinishStop)
@@ -225,7 +226,7 @@ takes_end finisher most fed input out answer so_far ends =
     record {
       bytes = so_far.bytes;
       taken = so_far.taken;
-      ends = ends (may_go_on finisher most so_far.bytes so_far.passed (omega (arith, so_far.fed_is, so_far.within)));
+      ends = ends (may_go_on most so_far.bytes (in_hand finisher) so_far.passed.behind so_far.passed.part_is (omega (arith, so_far.fed_is, so_far.within)));
       writes = subst P (sym all) so_far.writes;
       state_is = so_far.passed.state_is ∙ ap page_state (sym all);
     }

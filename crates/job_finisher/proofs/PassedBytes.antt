@@ -1,6 +1,6 @@
 -- What was passed on of a job after a piece.
 use Rattle.std.proofs.Common.{◌≡◌, ℕ, ◌+◌, ◌-◌, ◌≤◌, List, [], ◌∷◌, ◌++◌, length, refl, sym, ◌∙◌, ap, subst, arith, append_assoc, append-nil}
-use Rattle.std.proofs.Common.{length-append, Err, IfErr, Option, Result, None, Some, false, vec_capacity}
+use Rattle.std.proofs.Common.{length-append, Err, IfErr, Option, Result, None, Some, false}
 use Rattle.std.specs.Io.KnownBytes.{Appends}
 use Rattle.buffered_bytes.specs.Outside.{HasRisen, Outside}
 use Rattle.escp2_definitions.specs.declared.stops.JobCause.{JobCause}
@@ -22,7 +22,7 @@ use Rattle.job_finisher.specs.declared.finisher.PassStop.{PassStop}
 use Rattle.job_finisher.specs.declared.finisher.PassStop.TheVariants as stop
 use Rattle.job_finisher.specs.declared.hearing.JobFault.{JobFault}
 use Rattle.job_finisher.specs.declared.hearing.PieceHeard.{PieceHeard}
-use Rattle.job_finisher.specs.Hearing.{AreWhole, EndsPiece, FaultBehind, StandsAfter, StandsBehind, left_behind, made_whole}
+use Rattle.job_finisher.specs.Hearing.{AreWhole, EndsPiece, FaultBehind, StandsAfter, StandsBehind, left_behind, made_whole, most_held}
 use Rattle.job_finisher.specs.Passing.{IsPassStop, MeetsFault, Passed, PassesOn, PassesPart, fed_in, in_hand}
 use Rattle.weave_base.specs.Parts.{AppendsPart}
 
@@ -120,15 +120,19 @@ passed_none finisher stands fed is_open state none =
 
 -- ---- a piece more
 
--- the bytes that were fed, with a piece
+-- bytes with a piece behind them, by those in hand before it
+pub held_split : (sofar hand piece : List ℕ) (whole : Option ℕ) → sofar ≡ whole_commands sofar ++ hand
+    → sofar ++ piece ≡ (whole_commands sofar ++ made_whole whole hand piece) ++ left_behind whole hand piece
+held_split sofar hand piece whole behind =
+    let done : List ℕ = whole_commands sofar in
+    let made : List ℕ = made_whole whole hand piece in
+    let left : List ℕ = left_behind whole hand piece in
+    ap (λ bs. bs ++ piece) behind ∙ append_assoc done hand piece
+    ∙ ap (λ bs. done ++ bs) (sym (made_left whole hand piece)) ∙ sym (append_assoc done made left)
+
 piece_split : (finisher : JobFinisher) (sofar piece : List ℕ) (whole : Option ℕ) → Passed finisher sofar
     → sofar ++ piece ≡ (whole_commands sofar ++ made_whole whole (in_hand finisher) piece) ++ left_behind whole (in_hand finisher) piece
-piece_split finisher sofar piece whole passed =
-    let done : List ℕ = whole_commands sofar in
-    let made : List ℕ = made_whole whole (in_hand finisher) piece in
-    let left : List ℕ = left_behind whole (in_hand finisher) piece in
-    ap (λ bs. bs ++ piece) passed.behind ∙ append_assoc done (in_hand finisher) piece
-    ∙ ap (λ bs. done ++ bs) (sym (made_left whole (in_hand finisher) piece)) ∙ sym (append_assoc done made left)
+piece_split finisher sofar piece whole passed = held_split sofar (in_hand finisher) piece whole passed.behind
 
 -- the whole commands are all before what is left behind
 stands_whole : (fault : Option JobFault) (reader : JobReader) (state : PageState) (done left : List ℕ) → StandsAfter fault reader state done left
@@ -178,13 +182,13 @@ passed_more finisher new sofar piece heard passed ends none hand =
 -- there is room for what is left behind
 pub left_fits : (finisher : JobFinisher) (reader : JobReader) (state : PageState) (sofar piece : List ℕ) (heard : PieceHeard)
     → EndsPiece reader state (whole_commands sofar) (in_hand finisher) piece heard → heard.fault ≡ None
-    → length (left_behind heard.whole (in_hand finisher) piece) ≤ vec_capacity finisher.held
+    → length (left_behind heard.whole (in_hand finisher) piece) ≤ most_held
 left_fits finisher reader state sofar piece heard ends none =
     let done : List ℕ = whole_commands sofar ++ made_whole heard.whole (in_hand finisher) piece in
     let left : List ℕ = left_behind heard.whole (in_hand finisher) piece in
     let P : Option JobFault → Type 0 = λ fault. StandsAfter fault reader state done left in
     let stands : StandsBehind reader state done left = subst P none ends in
-    omega (arith, finisher.room, part-short left stands.stands.bytes stands.part_is)
+    omega (arith, part-short left stands.stands.bytes stands.part_is)
 
 -- a fault behind whole commands
 fault_met : (state : PageState) (bytes done tail : List ℕ) (offset : ℕ) (cause : JobCause) → bytes ≡ done ++ tail

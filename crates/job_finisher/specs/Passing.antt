@@ -9,6 +9,7 @@ use Rattle.escp2_definitions.specs.declared.stops.JobCause.{JobCause}
 use Rattle.escp2_reader.specs.Reading.{StandsFor, fed_of, is_failed_of}
 use Rattle.finish_definitions.specs.declared.state.PageState.{PageState}
 use Rattle.finish_definitions.specs.Finished.{page_state, whole_commands}
+use Rattle.job_finisher.specs.Holding.{held_in}
 use Rattle.job_finisher.specs.declared.finisher.JobFinisher.{JobFinisher}
 use Rattle.job_finisher.specs.declared.finisher.PassStop.{PassStop}
 use Rattle.job_finisher.specs.declared.finisher.PassStop.TheVariants as stop
@@ -16,7 +17,7 @@ use Rattle.weave_base.specs.Parts.{AppendsPart}
 
 -- the bytes of the command in hand
 abbrev pub in_hand : JobFinisher → List ℕ
-in_hand finisher = finisher.held.items
+in_hand finisher = held_in finisher.held
 
 -- how many bytes were fed
 abbrev pub fed_in : JobFinisher → ℕ

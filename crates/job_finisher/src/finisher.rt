@@ -1,25 +1,20 @@
 //! A job that is passed on, piece by piece.
 ghost use Rattle.buffered_bytes.specs.Outside.{outside_of};
 ghost use Rattle.finish_definitions.specs.Finished.{ending_bytes};
-ghost use Rattle.job_finisher.specs.Hearing.{most_held};
 ghost use Rattle.job_finisher.specs.declared.finisher.PassStop.TheVariants as PassStop;
 ghost use Rattle.std.specs.Io.KnownBytes.{Appends};
-ghost use Rattle.std.specs.Prelude.{IfErr, IfOk, List, OnErr, OnOk, [], length, vec_capacity, ℕ, ◌++◌, ◌+◌, ◌<◌, ◌≡◌};
+ghost use Rattle.std.specs.Prelude.{IfErr, IfOk, List, OnErr, OnOk, [], length, ℕ, ◌++◌, ◌+◌, ◌<◌, ◌≡◌};
 ghost use Rattle.std.specs.Prelude.{◌≤◌, ◌^◌};
 ghost use Rattle.weave_base.specs.Causes.{HasCause};
 ghost use Rattle.weave_base.specs.Parts.{AppendsPart};
 
 use crate::JobCause;
 use crate::hearing::hear;
-use crate::holding::{keep_rest, write_whole};
-use base_definitions::MOST_ROW_BYTES;
+use crate::holding::HeldCommand;
 use escp2_reader::JobReader;
 use finish_definitions::PageState;
 use std::alloc::Global;
 use weave_base::{Failed, Memory, Sink, put_all};
-
-// More than the bytes of a part of a command: 8, and twice those of a raster's rows.
-const MOST_HELD: usize = 8 + 2 * (255 * MOST_ROW_BYTES);
 
 /// Why a piece of a job is not passed on.
 #[derive(Clone, Copy, Debug, PartialEq, Eq)]
@@ -35,8 +30,7 @@ pub enum PassStop {
 pub struct JobFinisher {
     reader: JobReader,
     state: PageState,
-    held: Vec<u8>,
-    ghost room: { most_held ≤ vec_capacity held },
+    held: HeldCommand,
 }
 
 impl JobFinisher {
@@ -49,7 +43,7 @@ impl JobFinisher {
         Ok(JobFinisher {
             reader: JobReader::make(alloc)?,
             state: PageState::Between,
-            held: Vec::with_capacity(alloc, MOST_HELD)?,
+            held: HeldCommand::make(alloc)?,
         })
     }
 
@@ -68,14 +62,14 @@ impl JobFinisher {
         ensures later { K.faults out.old ≤ K.faults out.new }
     {
         let heard = hear(&mut self.reader, &mut self.state, piece);
-        write_whole(&self.held, piece, heard.whole, out)?;
+        self.held.write_whole(piece, heard.whole, out)?;
         match heard.fault {
             Some(fault) => Err(PassStop::Fault {
                 offset: fault.offset,
                 cause: fault.cause,
             }),
             None => {
-                keep_rest(&mut self.held, piece, heard.whole);
+                self.held.keep_rest(piece, heard.whole);
                 Ok(())
             }
         }

@@ -10,6 +10,9 @@
 //! `JobFinisher::pass` takes the job in pieces of any length (`Passed`). Before it returns, the sink has taken each
 //! command that is whole, byte for byte. So only the bytes of the command in hand are held back. `JobFinisher::end`
 //! writes the commands that end the page. `make` allocates all memory, also for the bytes of the largest command.
+//!
+//! A `HeldCommand` has the bytes in hand alone. It is for a caller that reads the job's commands anyhow, and knows of
+//! each piece where the last whole command ends.
 #![tactic(auto)]
 
 mod finisher;
@@ -19,4 +22,5 @@ mod job;
 
 pub use escp2_definitions::{JobCause, JobStop};
 pub use finisher::{JobFinisher, PassStop};
+pub use holding::HeldCommand;
 pub use job::{FinishStop, finish_job};

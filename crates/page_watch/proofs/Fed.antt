@@ -62,6 +62,22 @@ kept_behind : (bytes tail later : List ℕ) → later ≡ whole_commands bytes +
     → whole_commands later ≡ whole_commands bytes ++ whole_commands tail
 kept_behind bytes tail later is = ap whole_commands is ∙ whole-stays bytes tail
 
+-- a part of a command makes no more of them whole
+pub part_keeps : (watch : PageWatch) (sofar more : List ℕ) (watched : Watched watch sofar) → command_at (watched.part ++ more) ≡ Part
+    → whole_commands (sofar ++ more) ≡ whole_commands sofar
+part_keeps watch sofar more watched part =
+    let tail : List ℕ = watched.part ++ more in
+    kept_behind sofar tail (sofar ++ more) (split_more sofar watched.part more watched.behind)
+    ∙ ap (λ bs. whole_commands sofar ++ bs) (whole-part tail part) ∙ append-nil (whole_commands sofar)
+
+-- nor does a fault
+pub wrong_keeps : (watch : PageWatch) (sofar more : List ℕ) (place : ℕ) (cause : JobCause) (watched : Watched watch sofar)
+    → command_at (watched.part ++ more) ≡ Wrong place cause → whole_commands (sofar ++ more) ≡ whole_commands sofar
+wrong_keeps watch sofar more place cause watched wrong =
+    let tail : List ℕ = watched.part ++ more in
+    kept_behind sofar tail (sofar ++ more) (split_more sofar watched.part more watched.behind)
+    ∙ ap (λ bs. whole_commands sofar ++ bs) (whole-wrong tail place cause wrong) ∙ append-nil (whole_commands sofar)
+
 -- nothing is kept of nothing
 none_kept : whole_commands [] ≡ []
 unfolding whole_from
@@ -165,12 +181,14 @@ one_more old new sofar more command watched told counted is_open =
 -- a fault
 pub fault_more : (old new : PageWatch) (sofar more : List ℕ) (offset : ℕ) (cause : JobCause) (watched : Watched old sofar)
     → HeardFault (begin_of old.reader) offset cause new.reader (watched.part ++ more) → tally_of new ≡ tally_of old
-    → HasFault new (sofar ++ more) × ((commands (sofar ++ more)).entries ≡ (commands sofar).entries)
+    → HasFault new (sofar ++ more) offset cause × ((commands (sofar ++ more)).entries ≡ (commands sofar).entries)
 fault_more old new sofar more offset cause watched told same =
     let done : List ℕ = whole_commands sofar in
     let tail : List ℕ = watched.part ++ more in
     let later : List ℕ = sofar ++ more in
     let place : ℕ = offset - begin_of old.reader in
+    let at : length done + place ≡ offset =
+    omega (arith, told.behind, watched.stands.fed, watched.fed_is, ap length watched.behind, length-append done watched.part) in
     let list : CommandList = record { entries = (commands sofar).entries; end = Fault (length done + place) cause } in
     let split : later ≡ done ++ tail = split_more sofar watched.part more watched.behind in
     let grown : (rest : List ℕ) → later ++ rest ≡ done ++ (tail ++ rest) = λ rest. ap (λ bs. bs ++ rest) split ∙ append_assoc done tail rest in
@@ -185,9 +203,7 @@ fault_more old new sofar more offset cause watched told same =
     let here_kept : whole_commands later ≡ done = ap whole_commands (sym (append-nil later)) ∙ keeps [] in
     let entries : (commands later).entries ≡ (commands sofar).entries = ap (λ (l : CommandList). l.entries) here in (
       record {
-        offset = length done + place;
-        cause = cause;
-        fault = ap (λ (l : CommandList). l.end) here;
+        fault = ap (λ (l : CommandList). l.end) here ∙ ap (λ n. Fault n cause) at;
         stays = λ rest. reads rest ∙ sym here;
         whole_stays = λ rest. keeps rest ∙ sym here_kept;
         tally_is = same ∙ watched.tally_is ∙ ap (tally_from no_tally) (sym entries);

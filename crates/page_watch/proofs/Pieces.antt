@@ -1,22 +1,23 @@
 -- A piece that is fed, up to a command of interest.
-use Rattle.std.proofs.Common.{◌≡◌, ℕ, ◌+◌, ◌-◌, ◌≤◌, true, false, List, [], ◌∷◌, ◌++◌, length, take, drop}
-use Rattle.std.proofs.Common.{refl, sym, ◌∙◌, ap, subst, arith, append_assoc, length-drop}
-use Rattle.std.proofs.lemmas.List.{take_all}
+use Rattle.std.proofs.Common.{◌≡◌, ℕ, ◌+◌, ◌-◌, ◌≤◌, true, false, List, [], ◌∷◌, ◌++◌, length, take, drop, Option, None, Some, IfSome}
+use Rattle.std.proofs.Common.{refl, sym, ◌∙◌, ap, subst, arith, append_assoc, append-nil, length-drop}
+use Rattle.std.proofs.lemmas.List.{take_all, take-append-le}
 use Rattle.std.proofs.Math.Seq.{take-add}
 use Rattle.std.proofs.lemmas.List.Elements.{All-append, All-cons, All-nil}
 use Rattle.escp2_definitions.specs.declared.command.Command.{Command}
 use Rattle.escp2_definitions.specs.declared.stops.JobCause.{JobCause}
-use Rattle.escp2_definitions.specs.Commands.{Entry, commands, in_table, rows_len}
+use Rattle.escp2_definitions.specs.Commands.{Entry, command_at, commands, in_table, rows_len}
 use Rattle.escp2_reader.specs.declared.reader.HeardState.{HeardState}
 use Rattle.escp2_reader.specs.declared.reader.HeardState.TheVariants as heard
 use Rattle.escp2_reader.specs.declared.reader.JobReader.{JobReader}
-use Rattle.escp2_reader.specs.Reading.{HeardOne, IsHeard, StandsFor, begin_of, is_failed_of, rows_of}
+use Rattle.escp2_reader.specs.Reading.{HeardFault, HeardMore, HeardOne, IsHeard, StandsFor, begin_of, is_failed_of, rows_of}
+use Rattle.finish_definitions.specs.Finished.{whole_commands}
 use Rattle.page_tally.specs.Tallies.{no_tally, tally_after, tally_from}
 use Rattle.page_tally.specs.declared.lines.Telling.{Telling}
 use Rattle.page_watch.specs.declared.watch.Event.{Event}
 use Rattle.page_watch.specs.declared.watch.PageWatch.{PageWatch}
-use Rattle.page_watch.specs.Watching.{EndsWith, GrowsQuietly, HasFault, Watched, is_due, tally_of}
-use Rattle.page_watch.proofs.Fed.{MoreBy, fault_more, one_more, part_more}
+use Rattle.page_watch.specs.Watching.{EndsWhole, EndsWith, GrowsQuietly, HasFault, Watched, is_due, tally_of}
+use Rattle.page_watch.proofs.Fed.{MoreBy, fault_more, one_more, part_keeps, part_more, wrong_keeps}
 
 -- ---- a piece, up to an event
 
@@ -146,10 +147,65 @@ reads_event telling old new before front more all answer command is grown counte
 -- at a fault
 pub reads_fault : (telling : Telling) (old new : PageWatch) (before front more all : List ℕ) (answer : HeardState) (offset : ℕ) (cause : JobCause)
     → answer ≡ heard.Fault offset cause → all ≡ front ++ more → tally_of new ≡ tally_of old → Hears old new.reader answer more
-    → ReadsOn telling old before (before ++ front) → HasFault new (before ++ all) × GrowsQuietly telling before (before ++ all)
+    → ReadsOn telling old before (before ++ front) → HasFault new (before ++ all) offset cause × GrowsQuietly telling before (before ++ all)
 reads_fault telling old new before front more all answer offset cause is grown same hears so_far =
     let now : List ℕ = before ++ front in
-    let P : List ℕ → Type 0 = λ bs. HasFault new bs × GrowsQuietly telling before bs in
+    let P : List ℕ → Type 0 = λ bs. HasFault new bs offset cause × GrowsQuietly telling before bs in
     let next = fault_more old new now more offset cause so_far.watched
     (hears_behind old new.reader answer (heard.Fault offset cause) now more so_far.watched is hears) same in
     subst P (grown_by before front more all grown) (next.0, grows_same telling before now (now ++ more) next.1 so_far.quiet)
+
+-- ---- where the last whole command ends
+
+-- an end within a piece is one before a later place
+pub ends_later : (whole : Option ℕ) (at later : ℕ) → at ≤ later → IfSome whole (λ end. end ≤ at) → IfSome whole (λ end. end ≤ later)
+ends_later None at later first ends = tt
+ends_later (Some end) at later first ends = omega (arith, first, ends)
+
+-- the whole commands stay
+ends_kept : (whole : Option ℕ) (before front more all : List ℕ) → all ≡ front ++ more → IfSome whole (λ end. end ≤ length front)
+    → whole_commands (before ++ all) ≡ whole_commands (before ++ front) → EndsWhole whole before front → EndsWhole whole before all
+ends_kept None before front more all grown within kept ends = kept ∙ ends
+ends_kept (Some end) before front more all grown within kept ends =
+    kept ∙ ends ∙ ap (λ bs. before ++ bs) (sym (ap (take end) grown ∙ take-append-le end front more within))
+
+-- nothing was read
+pub whole_none : (before : List ℕ) → EndsWhole None before []
+whole_none before = ap whole_commands (append-nil before)
+
+-- no command ended
+pub whole_part : (telling : Telling) (old : PageWatch) (new : JobReader) (whole : Option ℕ) (before front more all : List ℕ) (answer : HeardState)
+    → answer ≡ heard.More → all ≡ front ++ more → Hears old new answer more → IfSome whole (λ end. end ≤ length front)
+    → ReadsOn telling old before (before ++ front) → EndsWhole whole before front → EndsWhole whole before all
+whole_part telling old new whole before front more all answer is grown hears within so_far ends =
+    let now : List ℕ = before ++ front in
+    let P : List ℕ → Type 0 = λ bs. whole_commands bs ≡ whole_commands now in
+    let told : HeardMore (begin_of old.reader) new (so_far.watched.part ++ more) =
+    hears_behind old new answer heard.More now more so_far.watched is hears in
+    ends_kept whole before front more all grown within
+    (subst P (grown_by before front more all grown) (part_keeps old now more so_far.watched told.part)) ends
+
+-- a fault was met
+pub whole_fault : (telling : Telling) (old : PageWatch) (new : JobReader) (whole : Option ℕ) (before front more all : List ℕ) (answer : HeardState)
+    (offset : ℕ) (cause : JobCause) → answer ≡ heard.Fault offset cause → all ≡ front ++ more → Hears old new answer more
+    → IfSome whole (λ end. end ≤ length front) → ReadsOn telling old before (before ++ front) → EndsWhole whole before front
+    → EndsWhole whole before all
+whole_fault telling old new whole before front more all answer offset cause is grown hears within so_far ends =
+    let now : List ℕ = before ++ front in
+    let P : List ℕ → Type 0 = λ bs. whole_commands bs ≡ whole_commands now in
+    let tail : List ℕ = so_far.watched.part ++ more in
+    let told : HeardFault (begin_of old.reader) offset cause new tail =
+    hears_behind old new answer (heard.Fault offset cause) now more so_far.watched is hears in
+    ends_kept whole before front more all grown within
+    (subst P (grown_by before front more all grown)
+    (wrong_keeps old now more (offset - begin_of old.reader) cause so_far.watched
+    (ap command_at (sym (append-nil tail)) ∙ told.wrong []))) ends
+
+-- a command ended
+pub whole_one : (telling : Telling) (old new : PageWatch) (before front more all : List ℕ) (end : ℕ) (answer : HeardState) (command : Command)
+    → answer ≡ heard.One command → all ≡ front ++ more → tally_of new ≡ tally_after (tally_of old) command (rows_of new.reader)
+    → is_failed_of new.reader ≡ false → Hears old new.reader answer more
+    → ReadsOn telling old before (before ++ front) → end ≡ length all → EndsWhole (Some end) before all
+whole_one telling old new before front more all end answer command is grown counted is_open hears so_far ends =
+    let one = reads_one telling old new before front more all answer command is grown counted is_open hears so_far in
+    one.whole ∙ ap (λ bs. before ++ bs) (sym (take_all end all (omega (arith, ends))))

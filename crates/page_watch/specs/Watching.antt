@@ -1,5 +1,6 @@
 -- What a watch was fed of a job, and the lines of its events (this project's own).
-use Rattle.std.specs.Prelude.{◌≡◌, ℕ, ◌+◌, ◌-◌, Bool, true, false, if◌then◌else◌, List, [], ◌∷◌, ◌++◌, length}
+use Rattle.std.specs.Prelude.{◌≡◌, ℕ, ◌+◌, ◌-◌, Bool, true, false, if◌then◌else◌, List, [], ◌∷◌, ◌++◌, length, take}
+use Rattle.std.specs.Prelude.{Option, None, Some}
 use Rattle.std.specs.List.{All, flat_map}
 use Rattle.base_definitions.specs.Counting.{count_from}
 use Rattle.escp2_definitions.specs.declared.command.Command.{Command}
@@ -64,7 +65,7 @@ event_lines telling before after command =
 abbrev pub seen_lines : Telling → Tally → SeenState → List ℕ
 seen_lines telling after seen.More = []
 seen_lines telling after (seen.Due event) = event_lines telling event.before after event.command
-seen_lines telling after seen.Fault = []
+seen_lines telling after (seen.Fault offset cause) = []
 
 -- ---- events
 
@@ -99,10 +100,9 @@ pub record EndsWith (event : Event) (telling : Telling) (before after : List ℕ
   pub command_is : event.command ≡ last.command
   pub before_is : event.before ≡ tally_from no_tally ((commands before).entries ++ between)
 
--- The command table refuses what is behind the whole commands of the bytes, whatever follows, and the tally is theirs.
-pub record HasFault (watch : PageWatch) (bytes : List ℕ) : Type 0 where
-  pub offset : ℕ
-  pub cause : JobCause
+-- The command table refuses what is at this offset, behind the whole commands of the bytes, whatever follows. The tally
+-- is theirs.
+pub record HasFault (watch : PageWatch) (bytes : List ℕ) (offset : ℕ) (cause : JobCause) : Type 0 where
   pub fault : (commands bytes).end ≡ Fault offset cause
   pub stays : (rest : List ℕ) → commands (bytes ++ rest) ≡ commands bytes
   pub whole_stays : (rest : List ℕ) → whole_commands (bytes ++ rest) ≡ whole_commands bytes
@@ -110,14 +110,21 @@ pub record HasFault (watch : PageWatch) (bytes : List ℕ) : Type 0 where
 
 -- ---- answers
 
+-- where the last command that became whole in a piece ends, behind these bytes: in it none did, or the whole commands
+-- are now all bytes up to that end
+abbrev pub EndsWhole : Option ℕ → List ℕ → List ℕ → Type 0
+EndsWhole None sofar piece = whole_commands (sofar ++ piece) ≡ whole_commands sofar
+EndsWhole (Some end) sofar piece = whole_commands (sofar ++ piece) ≡ sofar ++ take end piece
+
 -- a fact where the piece ends
 abbrev pub OnMore : SeenState → Type 0 → Type 0
 OnMore seen.More P = P
 OnMore (seen.Due event) P = Unit {0}
-OnMore seen.Fault P = Unit {0}
+OnMore (seen.Fault offset cause) P = Unit {0}
 
 -- what an answer means for the bytes that were fed before and after
 abbrev pub IsSeen : SeenState → Telling → PageWatch → List ℕ → List ℕ → Type 0
 IsSeen seen.More telling watch before after = Watched watch after × GrowsQuietly telling before after
 IsSeen (seen.Due event) telling watch before after = Watched watch after × EndsWith event telling before after
-IsSeen seen.Fault telling watch before after = HasFault watch after × GrowsQuietly telling before after
+IsSeen (seen.Fault offset cause) telling watch before after =
+    HasFault watch after offset cause × GrowsQuietly telling before after

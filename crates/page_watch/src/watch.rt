@@ -1,9 +1,9 @@
 //! A watch of a job's commands.
 ghost use Rattle.page_watch.specs.Watching.{is_due as is_due_command};
-ghost use Rattle.std.specs.Prelude.{IfOk, List, [], length, take, ℕ, ◌++◌, ◌+◌, ◌<◌, ◌≡◌, ◌≤◌, ◌^◌};
+ghost use Rattle.std.specs.Prelude.{IfOk, IfSome, List, [], length, take, ℕ, ◌++◌, ◌+◌, ◌<◌, ◌≡◌, ◌≤◌, ◌^◌};
 
 use base_definitions::Memory;
-use escp2_definitions::Command;
+use escp2_definitions::{Command, JobCause};
 use escp2_reader::{HeardState, JobReader};
 use page_tally::{Tally, Telling};
 use std::alloc::Global;
@@ -22,8 +22,8 @@ pub enum SeenState {
     More,
     /// A command of interest ends.
     Due(Event),
-    /// The command table refuses what follows the whole commands.
-    Fault,
+    /// The command table refuses what is at this offset, behind the whole commands.
+    Fault { offset: u64, cause: JobCause },
 }
 
 /// How much of a piece was used, and where the call stopped.
@@ -31,6 +31,8 @@ pub enum SeenState {
 pub struct Seen {
     /// The length of the prefix of the piece that was used.
     pub used: usize,
+    /// How many bytes of the piece end the last command that became whole, or `None` if none did.
+    pub whole: Option<usize>,
     pub state: SeenState,
 }
 
@@ -42,7 +44,8 @@ pub struct PageWatch {
 }
 
 impl PageWatch {
-    ghost use Rattle.page_watch.specs.Watching.{IsSeen, IsWatching, OnMore, Watched, fed_to, seen_lines, tally_of, told};
+    ghost use Rattle.page_watch.specs.Watching.{EndsWhole, IsSeen, IsWatching, OnMore, Watched, fed_to, seen_lines};
+    ghost use Rattle.page_watch.specs.Watching.{tally_of, told};
 
     /// A watch of a job from its first byte on. It allocates all memory; no other call allocates any.
     pub fn make(alloc: Global) -> Result<PageWatch, Memory>
@@ -68,6 +71,9 @@ impl PageWatch {
         requires room { fed_to self.old + length piece.now < 2 ^ 63 }
         ensures used { result.used ≤ length piece.now }
         ensures some { 0 < length piece.now → 0 < result.used }
+        ensures within { IfSome result.whole (λ end. end ≤ result.used) }
+        ensures whole { (sofar : List ℕ) → Watched self.old sofar
+            → EndsWhole result.whole sofar (take result.used piece.now) }
         ensures fed { fed_to self.new ≡ fed_to self.old + result.used }
         ensures all { OnMore result.state (result.used ≡ length piece.now) }
         ensures seen { (sofar : List ℕ) → Watched self.old sofar
@@ -76,6 +82,7 @@ impl PageWatch {
             ≡ told telling sofar ++ seen_lines telling (tally_of self.new) result.state }
     {
         let mut at = 0;
+        let mut whole = None;
         'commands: while at < piece.len() {
             let before = self.tally;
             let heard = self.reader.feed(&piece[at..]);
@@ -84,23 +91,27 @@ impl PageWatch {
                 HeardState::More => {}
                 HeardState::One(command) => {
                     self.tally.see(command, self.reader.rows());
+                    whole = Some(at);
                     if is_due(telling, command) {
                         return Seen {
                             used: at,
+                            whole,
                             state: SeenState::Due(Event { before, command }),
                         };
                     }
                 }
-                HeardState::Fault { .. } => {
+                HeardState::Fault { offset, cause } => {
                     return Seen {
                         used: at,
-                        state: SeenState::Fault,
+                        whole,
+                        state: SeenState::Fault { offset, cause },
                     };
                 }
             }
         }
         Seen {
             used: at,
+            whole,
             state: SeenState::More,
         }
     }

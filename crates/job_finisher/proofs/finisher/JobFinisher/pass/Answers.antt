@@ -12,7 +12,7 @@ returns-in_err-write_whole-clause-stop g c =
     stops_at_write old _ _ c.args.piece.now c.from_residual.result error.0 error.1 error.2 c.in_err-write_whole.ensures.cause.failed
     (λ sofar passed. passes_part _ old heard.new.reader heard.new.state sofar c.args.piece.now heard.result passed
     (heard.ensures.hears (whole_commands sofar) (in_hand old) (stands_passed old sofar passed))
-    (rw c.deref.ensures.value at c.in_err-write_whole.ensures.part))
+    c.in_err-write_whole.ensures.part)
 
 pub keep_rest-requires-clause-room : goal.keep_rest-requires-clause-room
 keep_rest-requires-clause-room g c =
@@ -29,7 +29,7 @@ returns-in-Some-clause-stop g c =
     λ sofar passed.
     let ends = heard.ensures.hears (whole_commands sofar) (in_hand old) (stands_passed old sofar passed) in (
       passes_on _ old heard.new.reader heard.new.state sofar c.args.piece.now heard.result passed ends
-          (rw c.deref.ensures.value at c.in_ok-write_whole.ensures.ok),
+          c.in_ok-write_whole.ensures.ok,
       stops_at_fault old heard.new.reader heard.new.state sofar c.args.piece.now heard.result c.in-Some.fault _ _ passed ends c.in-Some.is (cc) (cc),
     )
 
@@ -38,7 +38,7 @@ returns-in-None-clause-passed g c =
     let old = c.args.self.now in
     let heard = c.hear-heard in
     λ sofar passed. passed_more old _ sofar c.args.piece.now heard.result passed
-    (heard.ensures.hears (whole_commands sofar) (in_hand old) (stands_passed old sofar passed)) c.in-None.is c.keep_rest.ensures.items
+    (heard.ensures.hears (whole_commands sofar) (in_hand old) (stands_passed old sofar passed)) c.in-None.is c.keep_rest.ensures
 
 pub returns-in-None-clause-writes : goal.returns-in-None-clause-writes
 returns-in-None-clause-writes g c =
@@ -46,4 +46,4 @@ returns-in-None-clause-writes g c =
     let heard = c.hear-heard in
     λ sofar passed. passes_on _ old heard.new.reader heard.new.state sofar c.args.piece.now heard.result passed
     (heard.ensures.hears (whole_commands sofar) (in_hand old) (stands_passed old sofar passed))
-    (rw c.deref.ensures.value at c.in_ok-write_whole.ensures.ok)
+    c.in_ok-write_whole.ensures.ok
